@@ -1,0 +1,92 @@
+-- Written by the independent program, oracle/: a list of accesses with its answers, and what it leaves.
+use mathlib.Core.Path.{_≡_, refl}
+use mathlib.Core.Bool.{Bool, true, false}
+use mathlib.Core.List.{List, [], _∷_}
+use Prim.Native.Nat.{ℕ}
+use Rattle.model.specs.Lanes.{readDword, writeDword}
+use Rattle.model.specs.State.{idle, running, World, sound, freshCard, freshWorld}
+use Rattle.model.specs.Runs.{Entry}
+use Rattle.model.specs.Accesses.{Access, Answer, access}
+use Rattle.cases.specs.Vectors.{q, r, _gives_, settings, flags, mail, interrupts, transfer, card, world, bytes, RunAgrees}
+
+first : World
+first = freshWorld (settings 0 0 0 0) (bytes ((0, 188 ∷ 29 ∷ 93 ∷ 21 ∷ 200 ∷ 245 ∷ 122 ∷ 145 ∷ 63 ∷ 134 ∷ 231 ∷ 237 ∷ 208 ∷ 223 ∷ 199 ∷ 191 ∷ 141 ∷ 145 ∷ 112 ∷ 148 ∷ []) ∷ (16344, 145 ∷ 89 ∷ 138 ∷ 7 ∷ 151 ∷ 94 ∷ 31 ∷ 107 ∷ 181 ∷ 25 ∷ 108 ∷ 188 ∷ 113 ∷ 191 ∷ 39 ∷ 100 ∷ 213 ∷ 174 ∷ 124 ∷ 244 ∷ []) ∷ [])) (bytes [])
+
+entries : List (Entry Access Answer)
+entries =
+    q 3 0 0 0 0 0 gives r 9 0 0
+    ∷ q 4 0 6 0 3884781565 0 gives r 9 0 0
+    ∷ q 3 0 0 0 0 0 gives r 9 0 0
+    ∷ q 3 0 0 4294967292 0 0 gives r 9 0 0
+    ∷ q 4 0 6 4294967292 4164812381 0 gives r 9 0 0
+    ∷ q 3 0 0 4294967292 0 0 gives r 9 0 0
+    ∷ q 3 0 0 0 0 0 gives r 9 0 0
+    ∷ q 4 0 6 0 516303602 0 gives r 9 0 0
+    ∷ q 3 0 0 0 0 0 gives r 9 0 0
+    ∷ q 3 0 0 0 0 0 gives r 9 0 0
+    ∷ q 4 0 6 0 647051601 0 gives r 9 0 0
+    ∷ q 3 0 0 0 0 0 gives r 9 0 0
+    ∷ q 3 0 0 4294967292 0 0 gives r 9 0 0
+    ∷ q 4 0 6 4294967292 2293022919 0 gives r 9 0 0
+    ∷ q 3 0 0 4294967292 0 0 gives r 9 0 0
+    ∷ q 3 0 0 9 0 0 gives r 9 0 0
+    ∷ q 4 0 0 9 9 0 gives r 9 0 0
+    ∷ q 3 0 0 10 0 0 gives r 9 0 0
+    ∷ q 4 0 0 10 9 0 gives r 9 0 0
+    ∷ q 3 0 0 11 0 0 gives r 9 0 0
+    ∷ q 4 0 0 11 9 0 gives r 9 0 0
+    ∷ q 1 1 0 0 0 0 gives r 0 358423996 0
+    ∷ q 2 0 9 0 62163730 0 gives r 0 0 0
+    ∷ q 1 1 0 0 0 0 gives r 0 364153788 0
+    ∷ q 1 1 0 16380 0 0 gives r 0 4101811925 0
+    ∷ q 2 0 9 16380 3356973910 0 gives r 0 0 0
+    ∷ q 1 1 0 16380 0 0 gives r 0 4095171541 0
+    ∷ q 1 1 0 16384 0 0 gives r 9 0 0
+    ∷ q 2 0 9 16384 1385445053 0 gives r 9 0 0
+    ∷ q 1 1 0 16384 0 0 gives r 9 0 0
+    ∷ q 14 0 0 0 0 8 gives r 0 2 0
+    ∷ q 15 1 0 0 0 0 gives r 0 4 0
+    ∷ q 11 0 0 0 0 0 gives r 0 512 0
+    ∷ q 11 1 0 0 0 0 gives r 0 512 0
+    ∷ q 15 0 0 0 0 0 gives r 10 0 0
+    ∷ q 12 0 0 0 33554944 0 gives r 0 0 0
+    ∷ q 13 0 0 0 0 0 gives r 0 0 0
+    ∷ q 13 1 0 0 0 0 gives r 0 0 0
+    ∷ q 14 0 1 0 0 8 gives r 0 2 0
+    ∷ q 15 1 0 0 0 0 gives r 0 4 0
+    ∷ q 11 0 0 0 0 0 gives r 0 33554944 0
+    ∷ q 11 1 0 0 0 0 gives r 0 512 0
+    ∷ q 15 0 0 0 0 0 gives r 10 0 0
+    ∷ q 12 1 0 0 33554944 0 gives r 0 0 0
+    ∷ q 13 0 0 0 0 0 gives r 0 1 0
+    ∷ q 13 1 0 0 0 0 gives r 0 0 0
+    ∷ q 4 0 10 7 2271560481 0 gives r 9 0 0
+    ∷ q 13 0 4 0 0 0 gives r 3 0 0
+    ∷ q 4 0 16 0 2271560481 1 gives r 3 0 0
+    ∷ q 7 0 255 0 0 0 gives r 4 0 0
+    ∷ q 5 1 1 0 1 0 gives r 3 0 0
+    ∷ q 14 0 0 16380 0 8 gives r 9 0 0
+    ∷ q 16 1 255 0 0 0 gives r 3 0 0
+    ∷ q 10 0 0 4 0 0 gives r 3 0 0
+    ∷ q 2 0 5 16384 195939070 0 gives r 9 0 0
+    ∷ q 2 0 16 12 195939070 0 gives r 4 0 0
+    ∷ q 6 1 1 0 9 0 gives r 5 0 0
+    ∷ q 14 0 1 0 0 4294967295 gives r 8 0 0
+    ∷ q 15 3 0 0 0 0 gives r 2 0 0
+    ∷ []
+
+last : World
+last =
+    world
+    (card (settings 0 0 0 0)
+    ([] ∷ [] ∷ [] ∷ [] ∷ [])
+    (flags false false ∷ flags false false ∷ flags false false ∷ flags false false ∷ [])
+    (mail 0 0 false)
+    (interrupts 512 512 512 0)
+    idle)
+    (bytes ((0, 188 ∷ 139 ∷ 180 ∷ 21 ∷ 200 ∷ 245 ∷ 122 ∷ 145 ∷ 63 ∷ 134 ∷ 231 ∷ 237 ∷ 208 ∷ 223 ∷ 199 ∷ 191 ∷ 141 ∷ 145 ∷ 112 ∷ 148 ∷ []) ∷ (16344, 145 ∷ 89 ∷ 138 ∷ 7 ∷ 151 ∷ 94 ∷ 31 ∷ 107 ∷ 181 ∷ 25 ∷ 108 ∷ 188 ∷ 113 ∷ 191 ∷ 39 ∷ 100 ∷ 213 ∷ 91 ∷ 23 ∷ 244 ∷ []) ∷ []))
+    (bytes [])
+
+agrees : RunAgrees first entries last
+unfolding first entries last access sound freshCard readDword writeDword
+agrees = refl

@@ -1,0 +1,104 @@
+-- The words that the stored equations are written in, and what each kind of equation says.
+use mathlib.Core.Path.{_≡_}
+use mathlib.Core.Bool.{Bool}
+use mathlib.Core.List.{List, [], _∷_, _++_, map}
+use Prim.Native.Nat.{ℕ}
+use lib.ListN.{replicate}
+use Rattle.model.specs.State.{Settings, Flags, Mailboxes, Interrupts, Transfer, Dma, State, World, Made, sound, freshCard, freshWorld}
+use Rattle.model.specs.Runs.{Entry, Ran, run}
+use Rattle.model.specs.Accesses.{Access, Answer, access}
+use Rattle.model.specs.Source.{Memory, Part, source}
+use Rattle.model.specs.Pins.{Decoded, decode}
+
+infix 68 _gives_
+abbrev pub q : (kind side s a b c : ℕ) → Access
+q kind side s a b c = record { kind = kind; side = side; s = s; a = a; b = b; c = c }
+
+abbrev pub r : (number v x : ℕ) → Answer
+r number v x = record { number = number; v = v; x = x }
+
+abbrev pub _gives_ : Access → Answer → Entry Access Answer
+_gives_ a b = record { access = a; answer = b }
+
+abbrev pub settings : (base length lo hi : ℕ) → Settings
+settings base length lo hi = record { base = base; length = length; lo = lo; hi = hi }
+
+abbrev pub flags : (ofHost ofLocal : Bool) → Flags
+flags h l = record { ofHost = h; ofLocal = l }
+
+abbrev pub mail : (hldata lhdata : ℕ) → (written : Bool) → Mailboxes
+mail hl lh written = record { hldata = hl; lhdata = lh; written = written }
+
+abbrev pub interrupts : (hintEnables hintStatus lintEnables lintStatus : ℕ) → Interrupts
+interrupts he hs le ls = record { hint = record { enables = he; status = hs }; lint = record { enables = le; status = ls } }
+
+abbrev pub transfer : (direction shared pci size : ℕ) → Transfer
+transfer d a b c = record { direction = d; shared = a; pci = b; size = c }
+
+abbrev pub card : Settings → List (List ℕ) → List Flags → Mailboxes → Interrupts → Dma → State
+card s f g m i d = record { settings = s; fifos = f; flags = g; mailboxes = m; interrupts = i; dma = d }
+
+abbrev pub world : State → (shared window : List ℕ) → World
+world c shared window = record { card = c; shared = shared; window = window }
+
+-- a memory in pieces: so many zeros, then these bytes
+abbrev pub bytes : List (ℕ × List ℕ) → List ℕ
+bytes [] = []
+bytes (p ∷ ps) = replicate (p .0) 0 ++ (p .1 ++ bytes ps)
+
+abbrev pub part : Memory → (offset count : ℕ) → Part
+part m offset count = record { memory = m; offset = offset; count = count }
+
+-- Run from a world, the accesses of the entries get the answers of the entries and leave another world.
+abbrev pub RunAgrees : World → List (Entry Access Answer) → World → Type 0
+RunAgrees w entries last = run access w (map (λ e. e .access) entries) ≡ record { entries = entries; world = last }
+
+-- a request for a source, of zeroed memories of these lengths, and the part expected
+pub record SourceCase : Type 0 where
+  pub settings : Settings
+  pub sharedLength : ℕ
+  pub windowLength : ℕ
+  pub transfer : Transfer
+  pub expected : Part
+
+abbrev pub sourceCase : Settings → (sharedLength windowLength : ℕ) → Transfer → Part → SourceCase
+sourceCase s m n t p = record { settings = s; sharedLength = m; windowLength = n; transfer = t; expected = p }
+
+abbrev pub SourcesAgree : List SourceCase → Type 0
+SourcesAgree cases =
+    map (λ c. source (c .settings) (replicate (c .sharedLength) 0) (replicate (c .windowLength) 0) (c .transfer)) cases ≡ map (λ c. c .expected) cases
+
+-- width mode, pins and data, and what they decode to
+pub record PinCase : Type 0 where
+  pub mode : ℕ
+  pub pins : ℕ
+  pub dq : ℕ
+  pub expected : Decoded
+
+abbrev pub pinCase : (mode pins dq number lanes dword : ℕ) → PinCase
+pinCase mode pins dq number lanes dword = record { mode = mode; pins = pins; dq = dq; expected = record { number = number; lanes = lanes; dword = dword } }
+
+abbrev pub PinsAgree : List PinCase → Type 0
+PinsAgree cases = map (λ c. decode (c .mode) (c .pins) (c .dq)) cases ≡ map (λ c. c .expected) cases
+
+-- a record, and whether it is sound
+pub record SoundCase : Type 0 where
+  pub card : State
+  pub expected : Bool
+
+abbrev pub soundCase : State → Bool → SoundCase
+soundCase c b = record { card = c; expected = b }
+
+abbrev pub SoundnessAgrees : List SoundCase → Type 0
+SoundnessAgrees cases = map (λ c. sound (c .card)) cases ≡ map (λ c. c .expected) cases
+
+-- settings, and the number and the card that they give
+pub record FreshCase : Type 0 where
+  pub settings : Settings
+  pub expected : Made
+
+abbrev pub freshCase : Settings → (number : ℕ) → State → FreshCase
+freshCase s n c = record { settings = s; expected = record { number = n; card = c } }
+
+abbrev pub FreshAgrees : List FreshCase → Type 0
+FreshAgrees cases = map (λ c. freshCard (c .settings)) cases ≡ map (λ c. c .expected) cases

@@ -1,0 +1,99 @@
+-- "So a transfer ends within size / 4 steps": of each start done in a list, the transfer's done steps are at most size / 4, and the last of so many ends it.
+-- By induction over the list: every done step that does not end the transfer leaves one dword fewer to go, and at least one.
+use mathlib.Core.Path.{_≡_, refl, ap, _∙_, subst}
+use mathlib.Core.Logic.{_⊎_, inl, inr}
+use mathlib.Core.Bool.{Bool, true, false}
+use mathlib.Core.List.{List, [], _∷_, map}
+use Prim.Native.Nat.{ℕ, zero, suc, _-_, _/_, _<_}
+use native.Mathlib.Nat.{sub-zero}
+use native.Mathlib.Omega.{arith}
+use Rattle.model.specs.State.{Settings, Transfer, Dma, running, World, dmaSound, sound, freshWorld}
+use Rattle.model.specs.Runs.{Entry, entryAt, run}
+use Rattle.model.specs.Accesses.{Access, Answer, access}
+use Rattle.model.specs.Soundness.{sound-parts, stays-sound, fresh-sound, sound-transfer}
+use Rattle.reordering.specs.Roles.{Bearing, resets, starts, steps, none, openAfter, countAfter, Role, startOf, stepOf, neither, roleOf, rolesFrom, roles, stepsOf}
+use Rattle.reordering.specs.Reordering.{quiet, bearing}
+use Rattle.reordering.specs.Moving.{absent, end, same, opened-next}
+use Rattle.reordering.specs.Stepping.{opened, openIn, After, dma-after, follows}
+use Rattle.reordering.specs.Exchange.{fresh-idle}
+
+-- THE STATEMENT
+
+-- With `n` dwords to go: a done step has V 2, 3 or 4 and is the last, or V 1 and leaves dwords to go, one fewer.
+abbrev pub EndsWithin : (n : ℕ) → List (Entry Access Answer) → Type 0
+EndsWithin n [] = Unit {0}
+EndsWithin zero (e ∷ l) = ⊥
+EndsWithin (suc n) (e ∷ l) = ((bearing e ≡ steps true) × (l ≡ [])) ⊎ ((bearing e ≡ steps false) × (0 < n) × EndsWithin n l)
+
+-- of every start in the list
+abbrev pub AllEnd : List (Role Transfer (Entry Access Answer)) → Type 0
+AllEnd [] = Unit {0}
+AllEnd (startOf k t e ∷ l) = EndsWithin (t .size / 4) (stepsOf k l) × AllEnd l
+AllEnd (stepOf k e ∷ l) = AllEnd l
+AllEnd (neither e ∷ l) = AllEnd l
+
+-- ONE TRANSFER
+
+-- with transfer k alone open and `i` of its dwords moved
+module _ (k : ℕ) (t : Transfer) where
+  within : (accesses : List Access) (w : World) (n i : ℕ) → k < n → sound (w .card) ≡ true → w .card .dma ≡ running t i →
+      EndsWithin (t .size / 4 - i) (stepsOf k (rolesFrom bearing n ((k, t) ∷ []) (run access w accesses .entries)))
+  within [] w n i l h d = tt
+  within (q ∷ accesses) w n i l h d =
+      by (bearing (entryAt access w q)) refl (dma-after w q) (stays-sound w q h)
+      (λ n j m d′. within accesses (access w q .world) n j m (stays-sound w q h) d′)
+    where
+      w′ : World
+      w′ = access w q .world
+
+      rest : List (Entry Access Answer)
+      rest = run access (access w q .world) accesses .entries
+
+      less : (w : World) (i : ℕ) → sound (w .card) ≡ true → w .card .dma ≡ running t i → i < t .size / 4
+      less w i h d = sound-transfer t i (subst (λ d. dmaSound d ≡ true) d (sound-parts (w .card) h .dma)) .1
+
+      -- steps of a transfer that is open no more
+      over : stepsOf k (rolesFrom bearing n [] rest) ≡ []
+      over = absent bearing {n = n} {lo = n} k rest l (end {lo = n} (omega arith))
+
+      by : (κ : Bearing Transfer) → bearing (entryAt access w q) ≡ κ → After κ (w .card .dma) (access w q .world .card .dma) → sound (access w q .world .card) ≡ true →
+          ((n j : ℕ) → k < n → access w q .world .card .dma ≡ running t j → EndsWithin (t .size / 4 - j) (stepsOf k (rolesFrom bearing n ((k, t) ∷ []) rest))) →
+          EndsWithin (t .size / 4 - i) (stepsOf k (roleOf n ((k, t) ∷ []) κ (entryAt access w q) ∷ rolesFrom bearing (countAfter n κ) (openAfter (λ u. (n, u)) κ ((k, t) ∷ [])) rest))
+      by resets e a s f = rw over tt
+      by (starts u) e a s f = absurd (let r = a .0 in let z : _≡_ {A = ℕ} 0 1 = cc in omega arith)
+      by (steps true) e a s f =
+          let m : t .size / 4 - i ≡ suc (t .size / 4 - suc i) = (let x = less w i h d in omega arith) in
+          rw (same k, over, m) (inl (e, refl))
+      by (steps false) e a s f =
+          let r : a .0 ≡ t = cc in
+          let j : a .1 ≡ i = cc in
+          let d′ : access w q .world .card .dma ≡ running t (suc i) = (let y = a .3 in cc) in
+          let x = less w i h d in
+          let y = less (access w q .world) (suc i) s d′ in
+          let m : t .size / 4 - i ≡ suc (t .size / 4 - suc i) = omega arith in
+          rw (same k, m) (inr (e, omega arith, f n (suc i) l d′))
+      by none e a s f = f n i l (a ∙ d)
+
+-- EVERY TRANSFER OF A LIST
+
+-- at most one transfer is open
+abbrev OpenAs : Dma → List (ℕ × Transfer) → Type 0
+OpenAs d o = openIn d ≡ map (λ h. h .1) o
+
+all-end : (accesses : List Access) (w : World) (n : ℕ) (o : List (ℕ × Transfer)) → sound (w .card) ≡ true → OpenAs (w .card .dma) o → AllEnd (rolesFrom bearing n o (run access w accesses .entries))
+all-end [] w n o h u = tt
+all-end (q ∷ accesses) w n o h u =
+    by (bearing (entryAt access w q)) (dma-after w q) o u (all-end accesses (access w q .world) (countAfter n (bearing (entryAt access w q))) (openAfter (λ t. (n, t)) (bearing (entryAt access w q)) o) (stays-sound w q h) (opened-next access bearing quiet opened follows w q n o u))
+  where
+    by : (κ : Bearing Transfer) → After κ (w .card .dma) (access w q .world .card .dma) → (o : List (ℕ × Transfer)) → OpenAs (w .card .dma) o →
+        AllEnd (rolesFrom bearing (countAfter n κ) (openAfter (λ t. (n, t)) κ o) (run access (access w q .world) accesses .entries)) →
+        AllEnd (roleOf n o κ (entryAt access w q) ∷ rolesFrom bearing (countAfter n κ) (openAfter (λ t. (n, t)) κ o) (run access (access w q .world) accesses .entries))
+    by resets a o u r = r
+    by (starts t) a [] u r = (rw sub-zero at (within n t accesses (access w q .world) (suc n) 0 (omega arith) (stays-sound w q h) (a .1)), r)
+    by (starts t) a (x ∷ o) u r = absurd (let d = a .0 in let z : _≡_ {A = ℕ} 0 1 = cc in omega arith)
+    by (steps last) a [] u r = r
+    by (steps last) a (x ∷ o) u r = r
+    by none a o u r = r
+
+pub transfers-end : (settings : Settings) (shared window : List ℕ) (accesses : List Access) → AllEnd (roles bearing (run access (freshWorld settings shared window) accesses .entries))
+transfers-end settings shared window accesses = all-end accesses (freshWorld settings shared window) 0 [] (fresh-sound settings) (fresh-idle settings)

@@ -1,0 +1,9 @@
+pub mod Roles
+pub mod Reordering
+pub mod Moving
+pub mod Commute
+pub mod Kinds
+pub mod Stepping
+pub mod Exchange
+pub mod Premise
+pub mod Ending

@@ -1,0 +1,124 @@
+-- Rule 3: what disturbs a transfer between its start and its last done step, and the claim.
+use mathlib.Core.Path.{_≡_}
+use mathlib.Core.Bool.{Bool, true, false, not, _&&_, _||_}
+use mathlib.Core.List.{List, [], _∷_, _++_, map}
+use Prim.Native.Nat.{ℕ, _+_}
+use lib.Dec.{eqb, leb, ltb}
+use Rattle.model.specs.Choice.{if_then_else_, every}
+use Rattle.model.specs.Lanes.{laneBytes}
+use Rattle.model.specs.State.{Settings, Transfer, World, freshWorld}
+use Rattle.model.specs.Runs.{Outcome, Entry, run}
+use Rattle.model.specs.Accesses.{Access, Answer, Kind, reset, sharedRead, sharedWrite, windowRead, windowWrite, take, put, claim, release, mailboxWrite, mailboxRead, interruptRead, interruptWrite, line, start, step, externalPin, unknown, kindOf, transferOf}
+use Rattle.reordering.specs.Roles.{Bearing, resets, starts, steps, none, roles, moved, Undisturbed}
+
+-- WHAT AN ENTRY TOUCHES
+
+-- a byte, by its shared address or its PCI address
+pub data Place : Type 0 where
+  sharedByte pciByte : ℕ → Place
+
+pub data Touch : Type 0 where
+  starting resetting readingInterrupts writingInterrupts askingLine : Touch
+  reading writing : Place → Touch
+
+-- "Kinds 1 to 4 read or write only bytes of enabled lanes."
+abbrev pub doneTouches : Kind → Access → List Touch
+doneTouches reset q = resetting ∷ []
+doneTouches sharedRead q = map (λ i. reading (sharedByte i)) (laneBytes 4 (q .a) (q .s))
+doneTouches sharedWrite q = map (λ i. writing (sharedByte i)) (laneBytes 4 (q .a) (q .s))
+doneTouches windowRead q = map (λ i. reading (pciByte i)) (laneBytes 4 (q .a) (q .s))
+doneTouches windowWrite q = map (λ i. writing (pciByte i)) (laneBytes 4 (q .a) (q .s))
+doneTouches take q = []
+doneTouches put q = []
+doneTouches claim q = []
+doneTouches release q = []
+doneTouches mailboxWrite q = []
+doneTouches mailboxRead q = []
+doneTouches interruptRead q = readingInterrupts ∷ []
+doneTouches interruptWrite q = writingInterrupts ∷ []
+doneTouches line q = askingLine ∷ []
+doneTouches start q = []
+doneTouches step q = []
+doneTouches externalPin q = []
+doneTouches unknown q = []
+
+-- "a start (even a refused one)": any access of kind 14
+abbrev pub startTouches : Entry Access Answer → List Touch
+startTouches e = if eqb (e .access .kind) 14 then starting ∷ [] else []
+
+-- "No refused access but a start breaks the premise."
+abbrev pub touches : Entry Access Answer → List Touch
+touches e = startTouches e ++ (if eqb (e .answer .number) 0 then doneTouches (kindOf (e .access .kind)) (e .access) else [])
+
+-- WHAT DISTURBS A TRANSFER
+
+-- "A transfer's ranges are C shared bytes from A and C window bytes from PCI address B." One is its source, the other its destination.
+abbrev pub inRange : Transfer → Place → Bool
+inRange t (sharedByte i) = leb (t .shared) i && ltb i (t .shared + t .size)
+inRange t (pciByte i) = leb (t .pci) i && ltb i (t .pci + t .size)
+
+abbrev pub inSource : Transfer → Place → Bool
+inSource t (sharedByte i) = eqb (t .direction) 1 && inRange t (sharedByte i)
+inSource t (pciByte i) = eqb (t .direction) 0 && inRange t (pciByte i)
+
+abbrev pub inDestination : Transfer → Place → Bool
+inDestination t (sharedByte i) = eqb (t .direction) 0 && inRange t (sharedByte i)
+inDestination t (pciByte i) = eqb (t .direction) 1 && inRange t (pciByte i)
+
+-- "No access there is a done reset or a start (even a refused one), reads or writes an interrupt register, asks for a line level, writes a byte
+-- of the transfer's source or destination range, or reads a byte of its destination." A done reset cannot stand there: no later step would be
+-- one of the transfer's.
+abbrev pub disturbs : Transfer → Touch → Bool
+disturbs t resetting = true
+disturbs t starting = true
+disturbs t readingInterrupts = true
+disturbs t writingInterrupts = true
+disturbs t askingLine = true
+disturbs t (writing p) = inSource t p || inDestination t p
+disturbs t (reading p) = inDestination t p
+
+abbrev pub quiet : Transfer → Entry Access Answer → Bool
+quiet t e = every (λ touch. not (disturbs t touch)) (touches e)
+
+-- TRANSFERS IN A LIST
+
+abbrev pub doneBearing : Kind → Access → (v : ℕ) → Bearing Transfer
+doneBearing reset q v = resets
+doneBearing sharedRead q v = none
+doneBearing sharedWrite q v = none
+doneBearing windowRead q v = none
+doneBearing windowWrite q v = none
+doneBearing take q v = none
+doneBearing put q v = none
+doneBearing claim q v = none
+doneBearing release q v = none
+doneBearing mailboxWrite q v = none
+doneBearing mailboxRead q v = none
+doneBearing interruptRead q v = none
+doneBearing interruptWrite q v = none
+doneBearing line q v = none
+doneBearing start q v = starts (transferOf (q .s) (q .a) (q .b) (q .c))
+doneBearing step q v = steps (eqb v 2 || eqb v 3 || eqb v 4)
+doneBearing externalPin q v = none
+doneBearing unknown q v = none
+
+-- "Of the starts done since the last done reset, a done step belongs to the earliest that has no step yet with V 2, 3 or 4."
+abbrev pub bearing : Entry Access Answer → Bearing Transfer
+bearing e = if eqb (e .answer .number) 0 then doneBearing (kindOf (e .access .kind)) (e .access) (e .answer .v) else none
+
+-- THE CLAIM
+
+-- "Take any list of accesses of any kind and side, refused ones included, from a fresh card and any two memories", of any machine. If between its
+-- start and its last done step no transfer is disturbed, the list with each transfer's done steps moved to its start gets for every access the
+-- number, V and X that it had, and leaves the same record and the same bytes.
+abbrev pub StepsMoveIf : (quiet : Transfer → Entry Access Answer → Bool) → (machine : World → Access → Outcome Answer World) → Type 0
+StepsMoveIf quiet machine =
+    (settings : Settings) (shared window : List ℕ) (accesses : List Access) →
+    let w = freshWorld settings shared window in
+    let ran = run machine w accesses in
+    let list = roles bearing (ran .entries) in
+    Undisturbed quiet list →
+    run machine w (map (λ e. e .access) (moved list)) ≡ record { entries = moved list; world = ran .world }
+
+abbrev pub StepsMove : (machine : World → Access → Outcome Answer World) → Type 0
+StepsMove machine = StepsMoveIf quiet machine

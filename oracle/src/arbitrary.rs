@@ -1,0 +1,105 @@
+//! Random records: sound ones, and ones of which any part may be unsound.
+
+use std::collections::VecDeque;
+
+use crate::card::{Card, Mailboxes, Pair, FIFOS, FIFO_DEPTH, PAIRS};
+use crate::interrupts::{event, Register};
+use crate::rng::Rng;
+use crate::settings::Settings;
+use crate::transfer::{Running, Transfer, SHARED_LENGTH};
+
+/// A sound record with a small window.
+pub fn sound_card(rng: &mut Rng) -> Card {
+    let settings = sound_settings(rng);
+    Card {
+        settings,
+        fifos: (0..FIFOS).map(|_| fifo(rng, FIFO_DEPTH)).collect(),
+        pairs: (0..PAIRS).map(|_| pair(rng)).collect(),
+        mailboxes: Mailboxes {
+            hldata: rng.word() >> 16,
+            lhdata: rng.word() >> 16,
+            written: rng.one_in(2),
+        },
+        hint: register(rng, event::OF_HOST),
+        lint: register(rng, event::OF_LOCAL),
+        running: rng.one_in(2).then(|| running(rng, &settings)),
+    }
+}
+
+/// A sound record with, often, one part or two replaced by an unsound one.
+pub fn card(rng: &mut Rng) -> Card {
+    let mut card = sound_card(rng);
+    for _ in 0..rng.below(3) {
+        spoil(&mut card, rng);
+    }
+    card
+}
+
+fn sound_settings(rng: &mut Rng) -> Settings {
+    let length = 4 * rng.below(33);
+    let hi = 4 * rng.below(length / 4 + 1);
+    let lo = 4 * rng.below(hi / 4 + 1);
+    let highest = 0u32.wrapping_sub(length.max(4));
+    let between = 4 * rng.below(highest / 4);
+    let base = rng.pick(&[0, between, highest]);
+    Settings::new(base, length, lo, hi)
+}
+
+fn fifo(rng: &mut Rng, limit: usize) -> VecDeque<u32> {
+    let count = match rng.below(4) {
+        0 => 0,
+        1 => limit,
+        _ => rng.below(limit as u32 + 1) as usize,
+    };
+    (0..count).map(|_| rng.word()).collect()
+}
+
+fn pair(rng: &mut Rng) -> Pair {
+    let held_by = rng.below(3);
+    Pair {
+        host: held_by == 1,
+        local: held_by == 2,
+    }
+}
+
+fn register(rng: &mut Rng, existing: u32) -> Register {
+    Register {
+        enables: rng.word() & existing,
+        status: rng.word() & existing & !event::FOLLOWING,
+    }
+}
+
+fn running(rng: &mut Rng, settings: &Settings) -> Running {
+    let size = 4 + 4 * rng.below(8);
+    let near = settings.base.saturating_add(4 * rng.below(36));
+    let transfer = Transfer {
+        direction: rng.below(2) as u8,
+        shared: 4 * rng.below((SHARED_LENGTH - size) / 4 + 1),
+        pci: near.min(u32::MAX - size + 1) & !3,
+        size,
+    };
+    Running {
+        transfer,
+        moved: rng.below(transfer.dwords()),
+    }
+}
+
+/// Replaces one part of a record by numbers that may not be sound.
+fn spoil(card: &mut Card, rng: &mut Rng) {
+    match rng.below(9) {
+        0 => card.settings.base |= rng.below(4),
+        1 => card.settings.hi = card.settings.length.wrapping_sub(4),
+        2 => card.fifos[0].extend([1; 20]),
+        3 => card.pairs[1].host = true,
+        4 => card.mailboxes.hldata = rng.word(),
+        5 => card.hint.status = rng.word() >> 22,
+        6 => card.lint.enables = rng.word() >> 21,
+        7 => card.fifos.truncate(3),
+        _ => {
+            card.running = Some(Running {
+                transfer: Transfer::new(rng.below(3) as u8, rng.word() >> 17, rng.word(), 12),
+                moved: rng.below(4),
+            });
+        }
+    }
+}

@@ -1,0 +1,77 @@
+//! Every mode with all pins, and what is refused.
+
+use crate::pins::{decode, Decoded};
+
+use super::text;
+
+const DATA: [u32; 6] = [
+    0x0000_0000,
+    0xFFFF_FFFF,
+    0x1234_5678,
+    0xA1B2_C3D4,
+    0x0000_ABCD,
+    0x8040_2010,
+];
+
+const REFUSED: [(u8, u8); 12] = [
+    (4, 0),
+    (4, 15),
+    (5, 6),
+    (255, 0),
+    (255, 15),
+    (0, 16),
+    (1, 16),
+    (2, 16),
+    (3, 16),
+    (3, 255),
+    (4, 16),
+    (255, 255),
+];
+
+fn cases() -> Vec<(u8, u8, u32)> {
+    let mut cases = Vec::new();
+    for mode in 0..=3 {
+        for pins in 0..=15 {
+            cases.extend(DATA.map(|data| (mode, pins, data)));
+        }
+    }
+    for (mode, pins) in REFUSED {
+        cases.push((mode, pins, 0));
+        cases.push((mode, pins, 0xA1B2_C3D4));
+    }
+    cases
+}
+
+fn line(mode: u8, pins: u8, data: u32) -> String {
+    let Decoded {
+        number,
+        lanes,
+        dword,
+    } = decode(mode, pins, data);
+    format!("pinCase {mode} {pins} {data} {number} {lanes} {dword}")
+}
+
+pub fn text() -> String {
+    let lines = cases()
+        .into_iter()
+        .map(|(mode, pins, data)| line(mode, pins, data));
+    format!("{HEAD}{}{TAIL}", text::entries(lines))
+}
+
+const HEAD: &str = "\
+-- Written by the independent program, oracle/: local pins to lanes and dword.
+use mathlib.Core.Path.{_≡_, refl}
+use mathlib.Core.List.{List, [], _∷_}
+use Rattle.model.specs.Pins.{decode}
+use Rattle.cases.specs.Vectors.{PinCase, pinCase, PinsAgree}
+
+-- mode, pins, data; number, lanes, dword
+cases : List PinCase
+cases =
+";
+
+const TAIL: &str = "
+agrees : PinsAgree cases
+unfolding cases decode
+agrees = refl
+";

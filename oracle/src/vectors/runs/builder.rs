@@ -1,0 +1,92 @@
+//! Builds one list of accesses, on the world that they act on.
+
+use crate::access::{kind, Access, Answer};
+use crate::rng::Rng;
+use crate::settings::Settings;
+use crate::world::World;
+
+use super::coverage::{Coverage, Observed};
+
+pub const HOST: u8 = 0;
+pub const LOCAL: u8 = 1;
+
+pub struct Builder<'a> {
+    pub world: World,
+    pub rng: Rng,
+    pub entries: Vec<(Access, Answer)>,
+    coverage: &'a mut Coverage,
+}
+
+impl<'a> Builder<'a> {
+    pub fn new(world: World, rng: Rng, coverage: &'a mut Coverage) -> Builder<'a> {
+        coverage.start_list();
+        Builder {
+            world,
+            rng,
+            entries: Vec::new(),
+            coverage,
+        }
+    }
+
+    pub fn settings(&self) -> Settings {
+        self.world.card.settings
+    }
+
+    /// Performs an access and keeps it with its answer.
+    pub fn access(&mut self, access: Access) -> Answer {
+        let before = self.world.clone();
+        let answer = self.world.access(access);
+        self.coverage.observe(&Observed {
+            before: &before,
+            access: &access,
+            answer: &answer,
+            after: &self.world,
+        });
+        self.entries.push((access, answer));
+        answer
+    }
+
+    /// A kind that uses no field.
+    pub fn plain(&mut self, kind: u8, side: u8) {
+        self.access(Access::new(kind, side, 0, 0, 0, 0));
+    }
+
+    /// A kind that uses the selector alone.
+    pub fn select(&mut self, kind: u8, side: u8, s: u8) {
+        self.access(Access::new(kind, side, s, 0, 0, 0));
+    }
+
+    /// A kind that uses B alone.
+    pub fn value(&mut self, kind: u8, side: u8, b: u32) {
+        self.access(Access::new(kind, side, 0, 0, b, 0));
+    }
+
+    pub fn put(&mut self, side: u8, fifo: u8, entry: u32) {
+        self.access(Access::new(kind::PUT, side, fifo, 0, entry, 0));
+    }
+
+    pub fn start(&mut self, side: u8, direction: u8, shared: u32, pci: u32, size: u32) {
+        self.access(Access::new(kind::START, side, direction, shared, pci, size));
+    }
+
+    /// Steps from both sides in turn, until no transfer runs.
+    pub fn step_to_end(&mut self) {
+        let mut side = HOST;
+        while self.world.card.running.is_some() {
+            self.plain(kind::STEP, side);
+            side = 1 - side;
+        }
+    }
+
+    /// Both interrupt registers.
+    pub fn registers(&mut self) {
+        self.plain(kind::INTERRUPT_READ, HOST);
+        self.plain(kind::INTERRUPT_READ, LOCAL);
+    }
+
+    /// Both lines.
+    pub fn lines(&mut self) {
+        self.plain(kind::LINE, HOST);
+        self.plain(kind::LINE, LOCAL);
+    }
+}

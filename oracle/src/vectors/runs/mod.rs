@@ -1,0 +1,165 @@
+//! The lists of accesses with their answers.
+
+mod builder;
+mod choice;
+mod coverage;
+mod faults;
+mod plans;
+mod scripts;
+
+use crate::access::{Access, Answer};
+use crate::rng::Rng;
+use crate::settings::Settings;
+use crate::world::World;
+
+use super::text;
+use builder::Builder;
+use coverage::Coverage;
+use plans::{First, Plan};
+
+/// How far from a mark of a memory its first bytes are random.
+const REACH: u32 = 20;
+
+/// A list with its answers, and the worlds before and after it.
+pub struct Run {
+    /// The settings, where the list starts from a fresh card.
+    settings: Option<Settings>,
+    first: World,
+    entries: Vec<(Access, Answer)>,
+    last: World,
+}
+
+/// All lists. Between them they reach every required fact, or this panics.
+pub fn runs() -> Vec<Run> {
+    let plans = plans::plans();
+    let sharers = plans.iter().filter(|plan| plan.faults).count();
+    let mut coverage = Coverage::default();
+    let mut shares = 0..sharers;
+    let runs: Vec<Run> = plans
+        .into_iter()
+        .zip(1..)
+        .map(|(plan, seed)| {
+            let share = if plan.faults { shares.next() } else { None };
+            let share = share.map(|share| (share, sharers));
+            build(plan, seed, share, &mut coverage)
+        })
+        .collect();
+    let missing = coverage.missing();
+    assert!(missing.is_empty(), "not reached: {missing:#?}");
+    let count = |holds: fn(&Run) -> bool| runs.iter().filter(|run| holds(run)).count();
+    assert_eq!(count(|run| run.entries.len() < 40), 0);
+    assert!(count(|run| run.first.card.settings != Settings::REPLAY) >= runs.len() / 2);
+    assert!(count(|run| run.settings.is_none()) >= 4);
+    runs
+}
+
+/// `share` is which part of the faults falls to this list, and of how many.
+fn build(plan: Plan, seed: u64, share: Option<(usize, usize)>, coverage: &mut Coverage) -> Run {
+    let mut rng = Rng::new(seed);
+    let (settings, given) = match &plan.first {
+        First::Fresh(settings) => (Some(*settings), *settings),
+        First::Record(card) => (None, card.settings),
+    };
+    let marks = [0, given.lo, given.hi, given.length];
+    let shared = memory(plan.shared_length, &[0, 16_384], &mut rng);
+    let window = memory(plan.window_length, &marks, &mut rng);
+    let first = match plan.first {
+        First::Fresh(settings) => World::fresh(settings, shared, window),
+        First::Record(card) => World {
+            card,
+            shared,
+            window,
+        },
+    };
+    let mut faults = Vec::new();
+    if let Some((part, parts)) = share {
+        let all = faults::faults(&first.card.settings, &mut rng);
+        faults = all.into_iter().skip(part).step_by(parts).collect();
+    }
+    let mut builder = Builder::new(first.clone(), rng, coverage);
+    (plan.script)(&mut builder);
+    while builder.entries.len() < plan.length || !faults.is_empty() {
+        let room = plan.length.saturating_sub(builder.entries.len());
+        let chosen = builder.rng.below(room.max(faults.len()).max(1) as u32) as usize;
+        if chosen < faults.len() {
+            let fault = faults.remove(chosen);
+            builder.access(fault);
+        } else {
+            builder.random(&plan.weights);
+        }
+    }
+    Run {
+        settings,
+        first,
+        entries: builder.entries,
+        last: builder.world,
+    }
+}
+
+/// Zeros, but for random bytes around some offsets.
+fn memory(length: u32, marks: &[u32], rng: &mut Rng) -> Vec<u8> {
+    let mut memory = vec![0; length as usize];
+    for mark in marks {
+        for offset in mark.saturating_sub(REACH)..mark.saturating_add(REACH) {
+            if let Some(byte) = memory.get_mut(offset as usize) {
+                *byte = rng.byte();
+            }
+        }
+    }
+    memory
+}
+
+impl Run {
+    pub fn text(&self) -> String {
+        let first = match &self.settings {
+            Some(settings) => format!(
+                " freshWorld {} {} {}",
+                text::settings(settings),
+                text::bytes(&self.first.shared),
+                text::bytes(&self.first.window)
+            ),
+            None => world(&self.first),
+        };
+        let entries = self
+            .entries
+            .iter()
+            .map(|(access, answer)| text::entry(access, answer));
+        format!(
+            "{HEAD}\nfirst : World\nfirst ={first}\n\n\
+             entries : List (Entry Access Answer)\nentries =\n{}\n\
+             last : World\nlast ={}\n\n{TAIL}",
+            text::entries(entries),
+            world(&self.last)
+        )
+    }
+}
+
+fn world(world: &World) -> String {
+    [
+        "".to_string(),
+        "world".to_string(),
+        text::card(&world.card),
+        text::bytes(&world.shared),
+        text::bytes(&world.window),
+    ]
+    .join(&format!("\n{}", text::INDENT))
+}
+
+const HEAD: &str = "\
+-- Written by the independent program, oracle/: a list of accesses with its answers, and what it leaves.
+use mathlib.Core.Path.{_≡_, refl}
+use mathlib.Core.Bool.{Bool, true, false}
+use mathlib.Core.List.{List, [], _∷_}
+use Prim.Native.Nat.{ℕ}
+use Rattle.model.specs.Lanes.{readDword, writeDword}
+use Rattle.model.specs.State.{idle, running, World, sound, freshCard, freshWorld}
+use Rattle.model.specs.Runs.{Entry}
+use Rattle.model.specs.Accesses.{Access, Answer, access}
+use Rattle.cases.specs.Vectors.{q, r, _gives_, settings, flags, mail, interrupts, transfer, card, world, bytes, RunAgrees}
+";
+
+const TAIL: &str = "\
+agrees : RunAgrees first entries last
+unfolding first entries last access sound freshCard readDword writeDword
+agrees = refl
+";

@@ -1,0 +1,43 @@
+//! The planned part of each list.
+
+pub mod memories;
+pub mod registers;
+pub mod transfers;
+
+use crate::access::kind;
+use crate::refusal::LAST_KIND;
+
+use super::builder::{Builder, HOST, LOCAL};
+use super::faults::{faultless, faults};
+use memories::borders;
+
+/// A window without bytes: each step is a master abort.
+pub fn no_window(b: &mut Builder) {
+    let base = b.settings().base;
+    borders(b);
+    for direction in [0, 1] {
+        b.start(HOST, direction, 0, base, 8);
+        b.plain(kind::STEP, LOCAL);
+        b.registers();
+        b.plain(kind::STEP, HOST);
+        b.value(kind::INTERRUPT_WRITE, direction, 0x0200_0200);
+        b.lines();
+    }
+}
+
+/// Every kind, and faults of every number, where all is refused with 1.
+pub fn all_refused(b: &mut Builder) {
+    let settings = b.settings();
+    for kind in 0..=LAST_KIND {
+        let access = faultless(kind, &settings);
+        b.access(access);
+    }
+    let faults = faults(&settings, &mut b.rng);
+    while b.entries.len() < 42 {
+        let fault = b.rng.pick(&faults);
+        b.access(fault);
+    }
+}
+
+/// Nothing planned.
+pub fn nothing(_: &mut Builder) {}

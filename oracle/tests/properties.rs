@@ -1,0 +1,235 @@
+//! Laws of document 01 on random records and accesses.
+
+use oracle::access::{kind, Access, Answer};
+use oracle::arbitrary;
+use oracle::card::Card;
+use oracle::dword::{lane_bits, NO_LANES};
+use oracle::pins::decode;
+use oracle::rng::Rng;
+use oracle::source::{source, Memory, Part};
+use oracle::transfer::Transfer;
+use oracle::world::World;
+
+const ROUNDS: usize = 20_000;
+
+/// Random memories of the right lengths around a record, or now and then of wrong ones.
+fn world(rng: &mut Rng, card: Card) -> World {
+    let mut shared = vec![0; 16_384];
+    let mut window = vec![0; card.settings.length.min(1 << 16) as usize];
+    for byte in shared.iter_mut().take(64).chain(window.iter_mut()) {
+        *byte = rng.byte();
+    }
+    if rng.one_in(20) {
+        shared.truncate(16_380);
+    }
+    if rng.one_in(20) {
+        window.push(1);
+    }
+    World {
+        card,
+        shared,
+        window,
+    }
+}
+
+/// A random access, the fields mostly small or near the window.
+fn access(rng: &mut Rng, card: &Card) -> Access {
+    let near = card.settings.base.wrapping_add(4 * rng.below(36));
+    Access {
+        kind: rng.below(19) as u8,
+        side: rng.below(9) as u8 / 4,
+        s: rng.pick(&[0, 0, 1, 2, 3, 4, 15, 16]),
+        a: field(rng, near),
+        b: field(rng, near),
+        c: field(rng, near),
+    }
+}
+
+fn field(rng: &mut Rng, near: u32) -> u32 {
+    let word = rng.word();
+    rng.pick(&[0, 0, 0, 0, 4, 8, 16_380, 16_384, near, word])
+}
+
+#[test]
+fn a_refusal_changes_nothing() {
+    let mut rng = Rng::new(1);
+    let mut refused = [0; 11];
+    for _ in 0..ROUNDS {
+        let card = arbitrary::card(&mut rng);
+        let before = world(&mut rng, card);
+        let access = access(&mut rng, &before.card);
+        let mut after = before.clone();
+        let answer = after.access(access);
+        refused[usize::from(answer.number)] += 1;
+        if answer.number != 0 {
+            assert_eq!(answer, Answer::refused(answer.number));
+            assert_eq!(after, before, "{access:?}");
+        }
+    }
+    assert!(refused.iter().all(|count| *count > 0), "{refused:?}");
+}
+
+#[test]
+fn a_refusal_is_given_exactly_when_its_cause_is_the_first() {
+    let mut rng = Rng::new(2);
+    for _ in 0..ROUNDS {
+        let card = arbitrary::card(&mut rng);
+        let before = world(&mut rng, card);
+        let access = access(&mut rng, &before.card);
+        let first = (1..=10).find(|number| before.cause(*number, &access));
+        let answer = before.clone().access(access);
+        assert_eq!(answer.number, first.unwrap_or(0), "{access:?}");
+    }
+}
+
+#[test]
+fn a_sound_record_stays_sound() {
+    let mut rng = Rng::new(3);
+    for _ in 0..ROUNDS {
+        let card = arbitrary::sound_card(&mut rng);
+        assert!(card.sound());
+        let mut world = world(&mut rng, card);
+        let access = access(&mut rng, &world.card);
+        world.access(access);
+        assert!(world.card.sound(), "{access:?}");
+    }
+}
+
+#[test]
+fn a_line_is_active_when_status_meets_enable() {
+    let mut rng = Rng::new(4);
+    for _ in 0..1000 {
+        let mut card = arbitrary::sound_card(&mut rng);
+        let (mut shared, mut window) = (vec![0; 16_384], vec![0; card.settings.length as usize]);
+        for side in [0, 1] {
+            let mut plain = |kind| {
+                let access = Access::new(kind, side, 0, 0, 0, 0);
+                card.access(&mut shared, &mut window, access).v
+            };
+            let register = plain(kind::INTERRUPT_READ);
+            let line = plain(kind::LINE);
+            assert_eq!(line, u32::from(register >> 16 & register & 0x3FF != 0));
+        }
+    }
+}
+
+#[test]
+fn a_transfer_moves_its_source_within_its_steps() {
+    let mut rng = Rng::new(5);
+    for _ in 0..1000 {
+        let mut card = arbitrary::sound_card(&mut rng);
+        card.running = None;
+        let settings = card.settings;
+        let mut world = World {
+            shared: (0..16_384).map(|_| rng.byte()).collect(),
+            window: (0..settings.length).map(|_| rng.byte()).collect(),
+            card,
+        };
+        let size = 4 + 4 * rng.below(8);
+        let pci = settings.base.wrapping_add(4 * rng.below(36));
+        let transfer = Transfer::new(rng.below(2) as u8, 4 * rng.below(4000), pci, size);
+        let part = source(settings, &world.shared, &world.window, transfer);
+        let expected = part.of(&world.shared, &world.window).to_vec();
+        let Transfer {
+            direction,
+            shared,
+            pci,
+            size,
+        } = transfer;
+        let start = Access::new(kind::START, 0, direction, shared, pci, size);
+        if world.access(start) != Answer::done(size / 4, 0) {
+            assert_eq!(part, Part::REFUSED);
+            continue;
+        }
+        let mut last = 1;
+        let mut moved = 0;
+        for step in 0..size / 4 {
+            let side = (step % 2) as u8;
+            let answer = world.access(Access::new(kind::STEP, side, 0, 0, 0, 0));
+            assert_eq!(answer.number, 0);
+            last = answer.v;
+            moved = answer.x;
+            if last != 1 {
+                break;
+            }
+        }
+        assert_ne!(last, 1);
+        assert_eq!(world.card.running, None);
+        if last == 2 {
+            assert_eq!(moved, size / 4);
+            let offset = (pci - settings.base) as usize;
+            let in_window = &world.window[offset..offset + size as usize];
+            let in_shared = &world.shared[shared as usize..(shared + size) as usize];
+            assert_eq!(in_window, in_shared);
+            assert_eq!(in_window, expected);
+            assert_eq!(part.memory == Memory::Shared, direction == 1);
+        }
+    }
+}
+
+#[test]
+fn accepted_puts_are_takes_and_entries_held() {
+    let mut rng = Rng::new(6);
+    let mut card = arbitrary::sound_card(&mut rng);
+    let (mut shared, mut window) = (vec![0; 16_384], vec![0; card.settings.length as usize]);
+    card.reset();
+    let mut put = vec![Vec::new(); 4];
+    let mut taken = vec![Vec::new(); 4];
+    for _ in 0..ROUNDS {
+        let fifo = rng.below(4) as u8;
+        let entry = rng.word();
+        let access = if rng.one_in(2) {
+            Access::new(kind::PUT, rng.below(2) as u8, fifo, 0, entry, 0)
+        } else {
+            Access::new(kind::TAKE, rng.below(2) as u8, fifo, 0, 0, 0)
+        };
+        let answer = card.access(&mut shared, &mut window, access);
+        if answer.number == 0 && answer.x == 1 {
+            if access.kind == kind::PUT {
+                put[usize::from(fifo)].push(entry);
+            } else {
+                taken[usize::from(fifo)].push(answer.v);
+            }
+        }
+    }
+    for ((put, taken), held) in put.iter().zip(taken).zip(&card.fifos) {
+        let out: Vec<u32> = taken.into_iter().chain(held.iter().copied()).collect();
+        assert_eq!(*put, out);
+    }
+}
+
+#[test]
+fn a_write_reaches_its_lanes_alone() {
+    let mut rng = Rng::new(7);
+    let card = arbitrary::sound_card(&mut rng);
+    let mut world = World {
+        shared: (0..16_384).map(|_| rng.byte()).collect(),
+        window: vec![0; card.settings.length as usize],
+        card,
+    };
+    for _ in 0..1000 {
+        let (a, value) = (4 * rng.below(4096), rng.word());
+        let written = rng.below(16) as u8;
+        let read = rng.below(16) as u8;
+        let shared_read =
+            |world: &mut World, lanes| world.access(Access::new(1, 0, lanes, a, 0, 0)).v;
+        let old = shared_read(&mut world, 0);
+        world.access(Access::new(kind::SHARED_WRITE, 1, written, a, value, 0));
+        let bits = lane_bits(written);
+        let expected = (value & bits | old & !bits) & lane_bits(read);
+        assert_eq!(shared_read(&mut world, read), expected);
+    }
+}
+
+#[test]
+fn decoded_dwords_have_bits_in_their_lanes_alone() {
+    for mode in 0..=255 {
+        for pins in 0..=255 {
+            let decoded = decode(mode, pins, 0xFFFF_FFFF);
+            assert_eq!(decoded.dword, lane_bits(decoded.lanes));
+            let refused = mode > 3 || pins > 15;
+            assert_eq!(decoded.number, if refused { 4 } else { 0 });
+            assert!(!refused || decoded.lanes == NO_LANES);
+        }
+    }
+}
