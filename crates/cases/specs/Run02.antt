@@ -7,7 +7,8 @@ use Rattle.model.specs.Lanes.{readDword, writeDword}
 use Rattle.model.specs.State.{idle, running, World, sound, freshCard, freshWorld}
 use Rattle.model.specs.Runs.{Entry}
 use Rattle.model.specs.Accesses.{Access, Answer, access}
-use Rattle.cases.specs.Vectors.{q, r, _gives_, settings, flags, mail, interrupts, transfer, card, world, bytes, RunAgrees}
+use Rattle.model.specs.Bench.{q, r, _gives_}
+use Rattle.cases.specs.Vectors.{settings, flags, mail, interrupts, transfer, card, world, bytes, RunAgrees}
 
 first : World
 first = freshWorld (settings 268435456 32768 28672 32768) (bytes ((0, 151 ∷ 191 ∷ 152 ∷ 195 ∷ 79 ∷ 88 ∷ 185 ∷ 189 ∷ 64 ∷ 186 ∷ 86 ∷ 112 ∷ 142 ∷ 95 ∷ 238 ∷ 52 ∷ 51 ∷ 93 ∷ 96 ∷ 53 ∷ []) ∷ (16344, 12 ∷ 135 ∷ 97 ∷ 84 ∷ 234 ∷ 189 ∷ 134 ∷ 158 ∷ 2 ∷ 77 ∷ 221 ∷ 154 ∷ 68 ∷ 87 ∷ 226 ∷ 89 ∷ 71 ∷ 2 ∷ 230 ∷ 57 ∷ []) ∷ [])) (bytes ((0, 203 ∷ 43 ∷ 2 ∷ 173 ∷ 214 ∷ 111 ∷ 250 ∷ 217 ∷ 44 ∷ 140 ∷ 120 ∷ 192 ∷ 81 ∷ 152 ∷ 153 ∷ 59 ∷ 152 ∷ 91 ∷ 102 ∷ 43 ∷ []) ∷ (28632, 229 ∷ 93 ∷ 232 ∷ 83 ∷ 1 ∷ 157 ∷ 152 ∷ 45 ∷ 148 ∷ 208 ∷ 63 ∷ 31 ∷ 134 ∷ 232 ∷ 177 ∷ 55 ∷ 109 ∷ 96 ∷ 140 ∷ 194 ∷ 208 ∷ 94 ∷ 44 ∷ 19 ∷ 78 ∷ 122 ∷ 246 ∷ 238 ∷ 194 ∷ 239 ∷ 82 ∷ 220 ∷ 98 ∷ 58 ∷ 115 ∷ 85 ∷ 145 ∷ 248 ∷ 32 ∷ 139 ∷ []) ∷ (4056, 159 ∷ 30 ∷ 105 ∷ 137 ∷ 225 ∷ 99 ∷ 68 ∷ 122 ∷ 117 ∷ 112 ∷ 106 ∷ 79 ∷ 236 ∷ 167 ∷ 89 ∷ 57 ∷ 22 ∷ 134 ∷ 139 ∷ 210 ∷ []) ∷ []))
@@ -52,20 +53,21 @@ entries =
     ∷ q 11 1 0 0 0 0 gives r 0 18875168 0
     ∷ q 13 0 0 0 0 0 gives r 0 1 0
     ∷ q 13 1 0 0 0 0 gives r 0 1 0
-    ∷ q 14 0 0 0 4294967292 8 gives r 9 0 0
-    ∷ q 10 0 0 0 0 2147483648 gives r 3 0 0
-    ∷ q 14 0 1 16380 0 8 gives r 9 0 0
-    ∷ q 4 0 10 268468224 2271560481 1 gives r 3 0 0
+    ∷ q 14 0 0 0 268435459 4 gives r 9 0 0
+    ∷ q 10 255 0 0 0 0 gives r 2 0 0
+    ∷ q 14 0 1 1 0 8 gives r 9 0 0
+    ∷ q 4 1 10 268468224 2271560481 0 gives r 5 0 0
     ∷ q 0 255 0 0 0 0 gives r 2 0 0
-    ∷ q 5 1 4 0 0 0 gives r 4 0 0
-    ∷ q 16 1 0 0 2147483648 0 gives r 3 0 0
-    ∷ q 3 2 0 268468220 0 0 gives r 2 0 0
-    ∷ q 2 0 5 4294967295 195939070 0 gives r 9 0 0
-    ∷ q 13 0 0 0 1 0 gives r 3 0 0
-    ∷ q 4 7 16 268468224 1 1 gives r 2 0 0
-    ∷ q 6 1 2 0 9 0 gives r 5 0 0
-    ∷ q 8 255 3 0 0 0 gives r 2 0 0
-    ∷ q 4 0 10 4294967292 2271560481 0 gives r 9 0 0
+    ∷ q 5 1 1 0 4 0 gives r 3 0 0
+    ∷ q 15 0 0 0 256 0 gives r 3 0 0
+    ∷ q 7 0 4 0 0 0 gives r 4 0 0
+    ∷ q 3 0 0 4294967292 0 0 gives r 9 0 0
+    ∷ q 12 0 0 0 524288 256 gives r 3 0 0
+    ∷ q 14 0 2 0 0 0 gives r 4 0 0
+    ∷ q 1 1 0 4294967292 0 0 gives r 9 0 0
+    ∷ q 2 0 255 12 195939070 0 gives r 4 0 0
+    ∷ q 14 0 0 0 268435456 2 gives r 8 0 0
+    ∷ q 255 1 0 0 0 0 gives r 2 0 0
     ∷ []
 
 last : World

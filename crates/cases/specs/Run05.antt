@@ -7,7 +7,8 @@ use Rattle.model.specs.Lanes.{readDword, writeDword}
 use Rattle.model.specs.State.{idle, running, World, sound, freshCard, freshWorld}
 use Rattle.model.specs.Runs.{Entry}
 use Rattle.model.specs.Accesses.{Access, Answer, access}
-use Rattle.cases.specs.Vectors.{q, r, _gives_, settings, flags, mail, interrupts, transfer, card, world, bytes, RunAgrees}
+use Rattle.model.specs.Bench.{q, r, _gives_}
+use Rattle.cases.specs.Vectors.{settings, flags, mail, interrupts, transfer, card, world, bytes, RunAgrees}
 
 first : World
 first =
@@ -79,20 +80,21 @@ entries =
     ∷ q 7 1 1 0 0 0 gives r 0 0 0
     ∷ q 7 0 2 0 0 0 gives r 0 0 0
     ∷ q 7 1 2 0 0 0 gives r 0 1 0
-    ∷ q 17 2 16 1 1 1 gives r 2 0 0
-    ∷ q 4 1 16 536870912 2271560481 0 gives r 4 0 0
-    ∷ q 5 1 255 0 0 0 gives r 4 0 0
-    ∷ q 13 0 0 0 0 16777216 gives r 3 0 0
-    ∷ q 5 1 3 0 0 0 gives r 5 0 0
-    ∷ q 16 1 0 0 0 4294967295 gives r 3 0 0
-    ∷ q 14 0 0 0 4294950916 16384 gives r 9 0 0
-    ∷ q 3 255 0 536871164 0 0 gives r 2 0 0
-    ∷ q 2 0 15 16384 195939070 0 gives r 9 0 0
-    ∷ q 14 0 1 4294967292 0 4 gives r 9 0 0
-    ∷ q 8 1 3 4 0 0 gives r 3 0 0
-    ∷ q 4 0 10 4294967295 2271560481 0 gives r 9 0 0
+    ∷ q 14 1 2 0 0 3 gives r 4 0 0
+    ∷ q 1 0 16 16384 0 0 gives r 4 0 0
+    ∷ q 5 1 1 0 0 2147483648 gives r 3 0 0
+    ∷ q 15 0 0 0 0 1 gives r 3 0 0
+    ∷ q 255 2 0 0 0 0 gives r 2 0 0
+    ∷ q 13 2 0 0 0 0 gives r 2 0 0
+    ∷ q 14 0 1 0 536870912 0 gives r 7 0 0
+    ∷ q 3 2 0 536871164 0 0 gives r 2 0 0
+    ∷ q 3 0 0 4294967295 0 0 gives r 9 0 0
+    ∷ q 14 0 1 2 0 4 gives r 9 0 0
+    ∷ q 10 0 1 0 0 0 gives r 3 0 0
+    ∷ q 14 0 0 0 536870912 3 gives r 8 0 0
+    ∷ q 7 0 255 0 0 0 gives r 4 0 0
+    ∷ q 1 1 0 4294967295 0 0 gives r 9 0 0
     ∷ q 0 0 4 0 0 0 gives r 3 0 0
-    ∷ q 11 2 0 0 0 0 gives r 2 0 0
     ∷ []
 
 last : World

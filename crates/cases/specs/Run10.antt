@@ -7,7 +7,8 @@ use Rattle.model.specs.Lanes.{readDword, writeDword}
 use Rattle.model.specs.State.{idle, running, World, sound, freshCard, freshWorld}
 use Rattle.model.specs.Runs.{Entry}
 use Rattle.model.specs.Accesses.{Access, Answer, access}
-use Rattle.cases.specs.Vectors.{q, r, _gives_, settings, flags, mail, interrupts, transfer, card, world, bytes, RunAgrees}
+use Rattle.model.specs.Bench.{q, r, _gives_}
+use Rattle.cases.specs.Vectors.{settings, flags, mail, interrupts, transfer, card, world, bytes, RunAgrees}
 
 first : World
 first = freshWorld (settings 536870912 256 64 128) (bytes ((0, 8 ∷ 187 ∷ 33 ∷ 215 ∷ 219 ∷ 242 ∷ 201 ∷ 200 ∷ 249 ∷ 75 ∷ 61 ∷ 73 ∷ 0 ∷ 230 ∷ 10 ∷ 74 ∷ 57 ∷ 235 ∷ 33 ∷ 75 ∷ []) ∷ (16344, 200 ∷ 148 ∷ 246 ∷ 221 ∷ 236 ∷ 105 ∷ 120 ∷ 34 ∷ 25 ∷ 154 ∷ 109 ∷ 236 ∷ 201 ∷ 89 ∷ 100 ∷ 115 ∷ 21 ∷ 170 ∷ 147 ∷ 106 ∷ []) ∷ [])) (bytes ((0, 177 ∷ 98 ∷ 55 ∷ 30 ∷ 134 ∷ 130 ∷ 38 ∷ 109 ∷ 186 ∷ 210 ∷ 24 ∷ 19 ∷ 0 ∷ 210 ∷ 170 ∷ 126 ∷ 123 ∷ 175 ∷ 81 ∷ 233 ∷ []) ∷ (24, 163 ∷ 44 ∷ 70 ∷ 45 ∷ 206 ∷ 235 ∷ 225 ∷ 73 ∷ 72 ∷ 172 ∷ 74 ∷ 218 ∷ 162 ∷ 86 ∷ 223 ∷ 154 ∷ 3 ∷ 91 ∷ 144 ∷ 184 ∷ 80 ∷ 57 ∷ 188 ∷ 181 ∷ 86 ∷ 114 ∷ 12 ∷ 72 ∷ 188 ∷ 136 ∷ 235 ∷ 236 ∷ 22 ∷ 110 ∷ 123 ∷ 131 ∷ 185 ∷ 175 ∷ 31 ∷ 84 ∷ []) ∷ (24, 229 ∷ 249 ∷ 65 ∷ 31 ∷ 172 ∷ 189 ∷ 150 ∷ 30 ∷ 81 ∷ 51 ∷ 32 ∷ 36 ∷ 248 ∷ 205 ∷ 169 ∷ 92 ∷ 170 ∷ 187 ∷ 188 ∷ 141 ∷ 27 ∷ 25 ∷ 255 ∷ 156 ∷ 135 ∷ 57 ∷ 126 ∷ 157 ∷ 247 ∷ 46 ∷ 212 ∷ 123 ∷ 226 ∷ 117 ∷ 129 ∷ 34 ∷ 88 ∷ 134 ∷ 135 ∷ 251 ∷ []) ∷ (88, 160 ∷ 47 ∷ 75 ∷ 239 ∷ 216 ∷ 0 ∷ 201 ∷ 140 ∷ 250 ∷ 20 ∷ 1 ∷ 225 ∷ 83 ∷ 255 ∷ 161 ∷ 252 ∷ 150 ∷ 236 ∷ 66 ∷ 216 ∷ []) ∷ []))
@@ -54,20 +55,21 @@ entries =
     ∷ q 11 1 0 0 0 0 gives r 0 18874656 0
     ∷ q 13 0 0 0 0 0 gives r 0 1 0
     ∷ q 13 1 0 0 0 0 gives r 0 1 0
-    ∷ q 1 1 0 7 0 0 gives r 9 0 0
-    ∷ q 14 0 0 0 536870912 2 gives r 8 0 0
-    ∷ q 15 2 0 0 0 0 gives r 2 0 0
-    ∷ q 3 0 0 536871168 0 0 gives r 9 0 0
-    ∷ q 18 1 0 0 0 0 gives r 2 0 0
-    ∷ q 9 2 0 0 16777221 0 gives r 2 0 0
-    ∷ q 14 0 1 0 536870914 8 gives r 9 0 0
-    ∷ q 2 1 0 16384 0 1 gives r 3 0 0
-    ∷ q 6 1 4 0 77 0 gives r 4 0 0
-    ∷ q 14 0 1 0 536870912 0 gives r 7 0 0
-    ∷ q 11 0 0 0 0 2147483648 gives r 3 0 0
-    ∷ q 14 0 1 16388 0 0 gives r 7 0 0
-    ∷ q 1 255 0 8 0 0 gives r 2 0 0
-    ∷ q 4 2 10 536870912 2271560481 0 gives r 2 0 0
+    ∷ q 6 1 1 0 9 0 gives r 5 0 0
+    ∷ q 14 0 0 0 536870912 4294967292 gives r 8 0 0
+    ∷ q 16 1 0 256 0 0 gives r 3 0 0
+    ∷ q 2 0 5 7 195939070 0 gives r 9 0 0
+    ∷ q 4 0 10 536870917 2271560481 0 gives r 9 0 0
+    ∷ q 8 1 3 0 256 0 gives r 3 0 0
+    ∷ q 3 1 0 536871164 0 1 gives r 3 0 0
+    ∷ q 14 0 1 0 536870912 5 gives r 8 0 0
+    ∷ q 11 2 0 0 0 0 gives r 2 0 0
+    ∷ q 13 0 0 0 16777216 0 gives r 3 0 0
+    ∷ q 6 255 3 0 77 0 gives r 2 0 0
+    ∷ q 14 0 1 3 0 6 gives r 8 0 0
+    ∷ q 1 2 0 8 0 0 gives r 2 0 0
+    ∷ q 3 0 16 536871164 0 0 gives r 4 0 0
+    ∷ q 5 1 4 0 0 1 gives r 3 0 0
     ∷ []
 
 last : World

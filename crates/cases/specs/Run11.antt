@@ -7,7 +7,8 @@ use Rattle.model.specs.Lanes.{readDword, writeDword}
 use Rattle.model.specs.State.{idle, running, World, sound, freshCard, freshWorld}
 use Rattle.model.specs.Runs.{Entry}
 use Rattle.model.specs.Accesses.{Access, Answer, access}
-use Rattle.cases.specs.Vectors.{q, r, _gives_, settings, flags, mail, interrupts, transfer, card, world, bytes, RunAgrees}
+use Rattle.model.specs.Bench.{q, r, _gives_}
+use Rattle.cases.specs.Vectors.{settings, flags, mail, interrupts, transfer, card, world, bytes, RunAgrees}
 
 first : World
 first = freshWorld (settings 2147483584 64 0 64) (bytes ((0, 80 ∷ 67 ∷ 163 ∷ 129 ∷ 42 ∷ 141 ∷ 25 ∷ 199 ∷ 87 ∷ 245 ∷ 41 ∷ 65 ∷ 233 ∷ 248 ∷ 243 ∷ 62 ∷ 156 ∷ 233 ∷ 183 ∷ 201 ∷ []) ∷ (16344, 45 ∷ 208 ∷ 194 ∷ 116 ∷ 167 ∷ 238 ∷ 220 ∷ 191 ∷ 99 ∷ 232 ∷ 164 ∷ 51 ∷ 144 ∷ 160 ∷ 109 ∷ 236 ∷ 50 ∷ 69 ∷ 136 ∷ 23 ∷ []) ∷ [])) (bytes ((0, 114 ∷ 139 ∷ 240 ∷ 166 ∷ 196 ∷ 137 ∷ 109 ∷ 93 ∷ 65 ∷ 4 ∷ 255 ∷ 255 ∷ 144 ∷ 223 ∷ 66 ∷ 122 ∷ 65 ∷ 211 ∷ 125 ∷ 95 ∷ []) ∷ (24, 109 ∷ 151 ∷ 103 ∷ 152 ∷ 98 ∷ 110 ∷ 102 ∷ 207 ∷ 226 ∷ 108 ∷ 201 ∷ 106 ∷ 225 ∷ 170 ∷ 151 ∷ 142 ∷ 144 ∷ 86 ∷ 103 ∷ 9 ∷ []) ∷ []))
@@ -48,22 +49,22 @@ entries =
     ∷ q 11 1 0 0 0 0 gives r 0 18875136 0
     ∷ q 13 0 0 0 0 0 gives r 0 1 0
     ∷ q 13 1 0 0 0 0 gives r 0 1 0
-    ∷ q 18 2 0 0 0 0 gives r 2 0 0
-    ∷ q 3 0 0 4294967292 0 0 gives r 9 0 0
-    ∷ q 14 0 1 0 2147483587 4 gives r 9 0 0
-    ∷ q 6 1 255 0 77 0 gives r 4 0 0
+    ∷ q 16 1 0 0 256 0 gives r 3 0 0
+    ∷ q 2 0 5 16384 195939070 0 gives r 9 0 0
+    ∷ q 14 0 1 0 2147483584 16385 gives r 8 0 0
+    ∷ q 6 1 3 2147483648 77 0 gives r 3 0 0
     ∷ q 14 0 0 16360 2147483616 24 gives r 0 6 0
-    ∷ q 14 0 1 0 2147483584 1 gives r 6 0 0
-    ∷ q 5 1 0 1 0 0 gives r 3 0 0
-    ∷ q 14 0 0 0 2147483584 3 gives r 6 0 0
-    ∷ q 1 1 0 16384 0 0 gives r 9 0 0
-    ∷ q 2 0 12 16380 2164587764 0 gives r 0 0 0
-    ∷ q 9 255 0 0 16777221 0 gives r 2 0 0
-    ∷ q 14 0 1 3 0 6 gives r 6 0 0
-    ∷ q 15 255 0 0 0 0 gives r 2 0 0
-    ∷ q 12 2 0 0 524288 0 gives r 2 0 0
-    ∷ q 4 255 10 2147483584 2271560481 0 gives r 2 0 0
-    ∷ q 1 1 0 8 256 0 gives r 3 0 0
+    ∷ q 14 0 0 0 2147483584 4294967295 gives r 6 0 0
+    ∷ q 3 0 0 2147483648 0 1 gives r 3 0 0
+    ∷ q 4 0 10 2147483590 2271560481 0 gives r 9 0 0
+    ∷ q 5 0 2 0 0 0 gives r 5 0 0
+    ∷ q 14 1 0 0 4294967292 16388 gives r 6 0 0
+    ∷ q 1 255 0 8 0 0 gives r 2 0 0
+    ∷ q 11 255 0 0 0 0 gives r 2 0 0
+    ∷ q 6 0 0 0 0 1 gives r 3 0 0
+    ∷ q 8 1 3 0 0 256 gives r 3 0 0
+    ∷ q 3 0 255 2147483644 0 0 gives r 4 0 0
+    ∷ q 13 0 0 0 0 16777216 gives r 3 0 0
     ∷ []
 
 last : World
@@ -75,7 +76,7 @@ last =
     (mail 0 0 false)
     (interrupts 256 768 288 768)
     (running (transfer 0 16360 2147483616 24) 0))
-    (bytes ((0, 80 ∷ 67 ∷ 163 ∷ 129 ∷ 42 ∷ 141 ∷ 25 ∷ 199 ∷ 87 ∷ 245 ∷ 41 ∷ 65 ∷ 233 ∷ 248 ∷ 243 ∷ 62 ∷ 156 ∷ 233 ∷ 183 ∷ 201 ∷ []) ∷ (16344, 45 ∷ 208 ∷ 194 ∷ 116 ∷ 167 ∷ 238 ∷ 220 ∷ 191 ∷ 99 ∷ 232 ∷ 164 ∷ 51 ∷ 144 ∷ 160 ∷ 109 ∷ 236 ∷ 244 ∷ 252 ∷ 136 ∷ 23 ∷ []) ∷ []))
+    (bytes ((0, 80 ∷ 67 ∷ 163 ∷ 129 ∷ 42 ∷ 141 ∷ 25 ∷ 199 ∷ 87 ∷ 245 ∷ 41 ∷ 65 ∷ 233 ∷ 248 ∷ 243 ∷ 62 ∷ 156 ∷ 233 ∷ 183 ∷ 201 ∷ []) ∷ (16344, 45 ∷ 208 ∷ 194 ∷ 116 ∷ 167 ∷ 238 ∷ 220 ∷ 191 ∷ 99 ∷ 232 ∷ 164 ∷ 51 ∷ 144 ∷ 160 ∷ 109 ∷ 236 ∷ 50 ∷ 69 ∷ 136 ∷ 23 ∷ []) ∷ []))
     (bytes ((0, 114 ∷ 139 ∷ 240 ∷ 166 ∷ 196 ∷ 137 ∷ 109 ∷ 93 ∷ 65 ∷ 4 ∷ 255 ∷ 255 ∷ 144 ∷ 223 ∷ 66 ∷ 122 ∷ 65 ∷ 211 ∷ 125 ∷ 95 ∷ []) ∷ (24, 109 ∷ 151 ∷ 103 ∷ 152 ∷ 98 ∷ 110 ∷ 102 ∷ 207 ∷ 226 ∷ 108 ∷ 201 ∷ 106 ∷ 225 ∷ 170 ∷ 151 ∷ 142 ∷ 144 ∷ 86 ∷ 103 ∷ 9 ∷ []) ∷ []))
 
 agrees : RunAgrees first entries last

@@ -7,7 +7,8 @@ use Rattle.model.specs.Lanes.{readDword, writeDword}
 use Rattle.model.specs.State.{idle, running, World, sound, freshCard, freshWorld}
 use Rattle.model.specs.Runs.{Entry}
 use Rattle.model.specs.Accesses.{Access, Answer, access}
-use Rattle.cases.specs.Vectors.{q, r, _gives_, settings, flags, mail, interrupts, transfer, card, world, bytes, RunAgrees}
+use Rattle.model.specs.Bench.{q, r, _gives_}
+use Rattle.cases.specs.Vectors.{settings, flags, mail, interrupts, transfer, card, world, bytes, RunAgrees}
 
 first : World
 first = freshWorld (settings 4096 64 24 40) (bytes ((0, 128 ∷ 100 ∷ 84 ∷ 57 ∷ 4 ∷ 20 ∷ 8 ∷ 167 ∷ 6 ∷ 181 ∷ 65 ∷ 20 ∷ 104 ∷ 130 ∷ 205 ∷ 9 ∷ 252 ∷ 108 ∷ 42 ∷ 14 ∷ []) ∷ (16344, 181 ∷ 30 ∷ 87 ∷ 224 ∷ 104 ∷ 123 ∷ 127 ∷ 212 ∷ 34 ∷ 243 ∷ 170 ∷ 96 ∷ 65 ∷ 149 ∷ 224 ∷ 132 ∷ 131 ∷ 243 ∷ 32 ∷ 194 ∷ []) ∷ [])) (bytes ((0, 194 ∷ 103 ∷ 68 ∷ 3 ∷ 82 ∷ 45 ∷ 158 ∷ 53 ∷ 90 ∷ 58 ∷ 220 ∷ 241 ∷ 88 ∷ 38 ∷ 43 ∷ 117 ∷ 250 ∷ 246 ∷ 11 ∷ 241 ∷ 198 ∷ 238 ∷ 9 ∷ 213 ∷ 97 ∷ 98 ∷ 199 ∷ 87 ∷ 244 ∷ 226 ∷ 48 ∷ 28 ∷ 163 ∷ 229 ∷ 195 ∷ 49 ∷ 62 ∷ 169 ∷ 17 ∷ 188 ∷ 235 ∷ 20 ∷ 53 ∷ 207 ∷ 10 ∷ 7 ∷ 193 ∷ 147 ∷ 31 ∷ 78 ∷ 16 ∷ 1 ∷ 88 ∷ 251 ∷ 99 ∷ 10 ∷ 35 ∷ 120 ∷ 80 ∷ 184 ∷ 75 ∷ 143 ∷ 174 ∷ 217 ∷ []) ∷ []))
@@ -78,19 +79,20 @@ entries =
     ∷ q 1 0 9 4 0 0 gives r 0 3135232 0
     ∷ q 4 0 15 4128 1524231536 0 gives r 0 0 0
     ∷ q 3 0 6 4128 0 0 gives r 0 822083747 0
-    ∷ q 10 255 0 0 0 0 gives r 2 0 0
-    ∷ q 6 0 0 0 9 0 gives r 5 0 0
-    ∷ q 15 1 1 0 0 0 gives r 3 0 0
-    ∷ q 16 2 0 0 0 0 gives r 2 0 0
-    ∷ q 14 0 0 0 4096 4294967295 gives r 8 0 0
-    ∷ q 5 255 1 0 0 0 gives r 2 0 0
-    ∷ q 2 255 5 12 195939070 0 gives r 2 0 0
-    ∷ q 13 2 0 0 0 0 gives r 2 0 0
-    ∷ q 4 0 10 4101 2271560481 0 gives r 9 0 0
-    ∷ q 7 0 3 0 0 256 gives r 3 0 0
-    ∷ q 2 0 5 6 195939070 0 gives r 9 0 0
-    ∷ q 14 0 1 0 4096 16388 gives r 8 0 0
-    ∷ q 3 0 16 4160 0 0 gives r 4 0 0
+    ∷ q 9 1 255 0 16777221 0 gives r 3 0 0
+    ∷ q 18 0 0 0 0 0 gives r 2 0 0
+    ∷ q 4 1 10 4096 2271560481 1 gives r 3 0 0
+    ∷ q 1 1 0 5 0 0 gives r 9 0 0
+    ∷ q 14 0 0 0 4294950916 16384 gives r 9 0 0
+    ∷ q 4 0 255 4096 2271560481 0 gives r 4 0 0
+    ∷ q 7 255 3 0 0 0 gives r 2 0 0
+    ∷ q 12 2 0 0 524288 0 gives r 2 0 0
+    ∷ q 3 0 0 4101 0 0 gives r 9 0 0
+    ∷ q 2 2 5 12 195939070 0 gives r 2 0 0
+    ∷ q 4 0 10 4092 2271560481 0 gives r 9 0 0
+    ∷ q 14 0 1 16380 0 8 gives r 9 0 0
+    ∷ q 15 3 0 0 0 0 gives r 2 0 0
+    ∷ q 15 2 0 0 0 0 gives r 2 0 0
     ∷ []
 
 last : World

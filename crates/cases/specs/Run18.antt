@@ -7,7 +7,8 @@ use Rattle.model.specs.Lanes.{readDword, writeDword}
 use Rattle.model.specs.State.{idle, running, World, sound, freshCard, freshWorld}
 use Rattle.model.specs.Runs.{Entry}
 use Rattle.model.specs.Accesses.{Access, Answer, access}
-use Rattle.cases.specs.Vectors.{q, r, _gives_, settings, flags, mail, interrupts, transfer, card, world, bytes, RunAgrees}
+use Rattle.model.specs.Bench.{q, r, _gives_}
+use Rattle.cases.specs.Vectors.{settings, flags, mail, interrupts, transfer, card, world, bytes, RunAgrees}
 
 first : World
 first = freshWorld (settings 268435456 0 0 0) (bytes ((0, 17 ∷ 182 ∷ 110 ∷ 180 ∷ 30 ∷ 235 ∷ 250 ∷ 33 ∷ 181 ∷ 132 ∷ 99 ∷ 220 ∷ 212 ∷ 6 ∷ 220 ∷ 67 ∷ 13 ∷ 49 ∷ 255 ∷ 114 ∷ []) ∷ (16344, 156 ∷ 182 ∷ 119 ∷ 134 ∷ 24 ∷ 58 ∷ 25 ∷ 151 ∷ 116 ∷ 168 ∷ 210 ∷ 30 ∷ 113 ∷ 114 ∷ 170 ∷ 235 ∷ 248 ∷ 108 ∷ 133 ∷ 14 ∷ []) ∷ [])) (bytes [])
@@ -60,19 +61,20 @@ entries =
     ∷ q 12 1 0 0 33554944 0 gives r 0 0 0
     ∷ q 13 0 0 0 0 0 gives r 0 1 0
     ∷ q 13 1 0 0 0 0 gives r 0 0 0
-    ∷ q 2 0 5 7 195939070 0 gives r 9 0 0
-    ∷ q 10 0 128 0 0 0 gives r 3 0 0
-    ∷ q 14 0 0 4 0 16384 gives r 9 0 0
-    ∷ q 4 0 10 268435462 2271560481 0 gives r 9 0 0
-    ∷ q 7 0 4 0 0 0 gives r 4 0 0
-    ∷ q 5 0 1 0 0 0 gives r 5 0 0
-    ∷ q 5 1 1 1 0 0 gives r 3 0 0
-    ∷ q 3 1 0 268435456 0 0 gives r 5 0 0
-    ∷ q 2 0 5 12 195939070 1 gives r 3 0 0
-    ∷ q 14 0 1 0 268435456 4294967292 gives r 8 0 0
-    ∷ q 16 255 0 0 0 0 gives r 2 0 0
-    ∷ q 15 2 1 0 0 0 gives r 2 0 0
-    ∷ q 13 255 0 0 0 0 gives r 2 0 0
+    ∷ q 3 0 0 268435462 0 0 gives r 9 0 0
+    ∷ q 9 1 0 4294967295 16777221 0 gives r 3 0 0
+    ∷ q 14 0 0 1 0 8 gives r 9 0 0
+    ∷ q 1 1 0 6 0 0 gives r 9 0 0
+    ∷ q 12 255 0 0 524288 0 gives r 2 0 0
+    ∷ q 18 1 0 0 0 0 gives r 2 0 0
+    ∷ q 5 2 1 0 0 0 gives r 2 0 0
+    ∷ q 14 0 1 4294967292 0 4 gives r 9 0 0
+    ∷ q 2 255 5 12 195939070 0 gives r 2 0 0
+    ∷ q 4 0 15 268435456 2271560481 0 gives r 9 0 0
+    ∷ q 4 0 10 268435456 2271560481 1 gives r 3 0 0
+    ∷ q 3 2 0 268435456 0 0 gives r 2 0 0
+    ∷ q 15 255 0 0 0 0 gives r 2 0 0
+    ∷ q 7 0 3 256 0 0 gives r 3 0 0
     ∷ []
 
 last : World

@@ -7,7 +7,8 @@ use Rattle.model.specs.Lanes.{readDword, writeDword}
 use Rattle.model.specs.State.{idle, running, World, sound, freshCard, freshWorld}
 use Rattle.model.specs.Runs.{Entry}
 use Rattle.model.specs.Accesses.{Access, Answer, access}
-use Rattle.cases.specs.Vectors.{q, r, _gives_, settings, flags, mail, interrupts, transfer, card, world, bytes, RunAgrees}
+use Rattle.model.specs.Bench.{q, r, _gives_}
+use Rattle.cases.specs.Vectors.{settings, flags, mail, interrupts, transfer, card, world, bytes, RunAgrees}
 
 first : World
 first = freshWorld (settings 0 0 0 0) (bytes ((0, 188 ∷ 29 ∷ 93 ∷ 21 ∷ 200 ∷ 245 ∷ 122 ∷ 145 ∷ 63 ∷ 134 ∷ 231 ∷ 237 ∷ 208 ∷ 223 ∷ 199 ∷ 191 ∷ 141 ∷ 145 ∷ 112 ∷ 148 ∷ []) ∷ (16344, 145 ∷ 89 ∷ 138 ∷ 7 ∷ 151 ∷ 94 ∷ 31 ∷ 107 ∷ 181 ∷ 25 ∷ 108 ∷ 188 ∷ 113 ∷ 191 ∷ 39 ∷ 100 ∷ 213 ∷ 174 ∷ 124 ∷ 244 ∷ []) ∷ [])) (bytes [])
@@ -60,19 +61,20 @@ entries =
     ∷ q 12 1 0 0 33554944 0 gives r 0 0 0
     ∷ q 13 0 0 0 0 0 gives r 0 1 0
     ∷ q 13 1 0 0 0 0 gives r 0 0 0
-    ∷ q 4 0 10 7 2271560481 0 gives r 9 0 0
-    ∷ q 13 0 4 0 0 0 gives r 3 0 0
-    ∷ q 4 0 16 0 2271560481 1 gives r 3 0 0
-    ∷ q 7 0 255 0 0 0 gives r 4 0 0
-    ∷ q 5 1 1 0 1 0 gives r 3 0 0
-    ∷ q 14 0 0 16380 0 8 gives r 9 0 0
-    ∷ q 16 1 255 0 0 0 gives r 3 0 0
-    ∷ q 10 0 0 4 0 0 gives r 3 0 0
-    ∷ q 2 0 5 16384 195939070 0 gives r 9 0 0
-    ∷ q 2 0 16 12 195939070 0 gives r 4 0 0
-    ∷ q 6 1 1 0 9 0 gives r 5 0 0
-    ∷ q 14 0 1 0 0 4294967295 gives r 8 0 0
-    ∷ q 15 3 0 0 0 0 gives r 2 0 0
+    ∷ q 14 0 0 0 0 0 gives r 7 0 0
+    ∷ q 12 0 1 0 524288 0 gives r 3 0 0
+    ∷ q 14 0 1 0 4294967292 8 gives r 9 0 0
+    ∷ q 7 0 3 0 2147483648 0 gives r 3 0 0
+    ∷ q 5 255 1 0 0 0 gives r 2 0 0
+    ∷ q 14 0 0 2 0 4 gives r 9 0 0
+    ∷ q 15 0 4 0 0 0 gives r 3 0 0
+    ∷ q 9 1 0 0 16777221 2147483648 gives r 3 0 0
+    ∷ q 3 0 0 7 0 0 gives r 9 0 0
+    ∷ q 2 0 5 12 195939070 4294967295 gives r 3 0 0
+    ∷ q 18 2 0 0 0 0 gives r 2 0 0
+    ∷ q 4 1 16 0 2271560481 0 gives r 4 0 0
+    ∷ q 4 7 16 0 1 1 gives r 2 0 0
+    ∷ q 1 1 0 7 0 0 gives r 9 0 0
     ∷ []
 
 last : World

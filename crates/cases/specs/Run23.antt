@@ -7,7 +7,8 @@ use Rattle.model.specs.Lanes.{readDword, writeDword}
 use Rattle.model.specs.State.{idle, running, World, sound, freshCard, freshWorld}
 use Rattle.model.specs.Runs.{Entry}
 use Rattle.model.specs.Accesses.{Access, Answer, access}
-use Rattle.cases.specs.Vectors.{q, r, _gives_, settings, flags, mail, interrupts, transfer, card, world, bytes, RunAgrees}
+use Rattle.model.specs.Bench.{q, r, _gives_}
+use Rattle.cases.specs.Vectors.{settings, flags, mail, interrupts, transfer, card, world, bytes, RunAgrees}
 
 first : World
 first =

@@ -4,21 +4,11 @@ use mathlib.Core.Bool.{Bool}
 use mathlib.Core.List.{List, [], _∷_, _++_, map}
 use Prim.Native.Nat.{ℕ}
 use lib.ListN.{replicate}
-use Rattle.model.specs.State.{Settings, Flags, Mailboxes, Interrupts, Transfer, Dma, State, World, Made, sound, freshCard, freshWorld}
+use Rattle.model.specs.State.{Settings, Flags, Mailboxes, Interrupts, Transfer, Dma, State, World, NewCard, sound, freshCard}
 use Rattle.model.specs.Runs.{Entry, Ran, run}
 use Rattle.model.specs.Accesses.{Access, Answer, access}
 use Rattle.model.specs.Source.{Memory, Part, source}
 use Rattle.model.specs.Pins.{Decoded, decode}
-
-infix 68 _gives_
-abbrev pub q : (kind side s a b c : ℕ) → Access
-q kind side s a b c = record { kind = kind; side = side; s = s; a = a; b = b; c = c }
-
-abbrev pub r : (number v x : ℕ) → Answer
-r number v x = record { number = number; v = v; x = x }
-
-abbrev pub _gives_ : Access → Answer → Entry Access Answer
-_gives_ a b = record { access = a; answer = b }
 
 abbrev pub settings : (base length lo hi : ℕ) → Settings
 settings base length lo hi = record { base = base; length = length; lo = lo; hi = hi }
@@ -95,7 +85,7 @@ SoundnessAgrees cases = map (λ c. sound (c .card)) cases ≡ map (λ c. c .expe
 -- settings, and the number and the card that they give
 pub record FreshCase : Type 0 where
   pub settings : Settings
-  pub expected : Made
+  pub expected : NewCard
 
 abbrev pub freshCase : Settings → (number : ℕ) → State → FreshCase
 freshCase s n c = record { settings = s; expected = record { number = n; card = c } }

@@ -14,8 +14,8 @@ use Rattle.model.specs.Runs.{Outcome, Entry, entryAt, run}
 use Rattle.model.specs.Accesses.{Access, Answer, access}
 use Rattle.model.specs.TestLaws.{All, no-both, if-case}
 use Rattle.model.specs.Bench.{q, r, bench}
-use Rattle.reordering.specs.Roles.{Bearing, resets, starts, steps, none, openAfter, countAfter, Role, startOf, stepOf, neither, entryOf, roleOf, rolesFrom, roles, stepsOf, moved}
-use Rattle.reordering.specs.Reordering.{quiet, bearing, StepsMove}
+use Rattle.reordering.specs.Roles.{TransferAction, resets, starts, steps, none, openAfter, countAfter, Role, startOf, stepOf, neither, entryOf, roleOf, rolesFrom, roles, stepsOf, moved}
+use Rattle.reordering.specs.Reordering.{quiet, actionOf, StepsMove}
 use Rattle.reordering.specs.Moving.{Follows, Exchanged, moved-same}
 use Rattle.reordering.specs.Stepping.{opened, follows}
 use Rattle.reordering.specs.Exchange.{exchange, step-again, fresh-idle}
@@ -35,7 +35,7 @@ abbrev pub changesNothing : World → Access → Outcome Answer World
 changesNothing w a = record { answer = access w a .answer; world = w }
 
 -- "and one that copies the whole transfer at step one": a done step with V 1 goes on with the next, at most 4,095 times
-abbrev goesOn : Bearing Transfer → Bool
+abbrev goesOn : TransferAction Transfer → Bool
 goesOn resets = false
 goesOn (starts t) = false
 goesOn (steps true) = false
@@ -44,7 +44,7 @@ goesOn none = false
 
 abbrev pub stepsOn : (n : ℕ) → World → Access → Outcome Answer World
 stepsOn zero w a = access w a
-stepsOn (suc n) w a = if goesOn (bearing (entryAt access w a)) then stepsOn n (access w a .world) a else access w a
+stepsOn (suc n) w a = if goesOn (actionOf (entryAt access w a)) then stepsOn n (access w a .world) a else access w a
 
 unfoldable pub copiesWhole : World → Access → Outcome Answer World
 copiesWhole w a = stepsOn 4095 w a
@@ -57,16 +57,16 @@ AllRoles P [] = Unit {0}
 AllRoles P (x ∷ l) = P (entryOf x) × AllRoles P l
 
 module _ (P : Entry Access Answer → Type 0) where
-  role-entry : (n : ℕ) (o : List (ℕ × Transfer)) (κ : Bearing Transfer) (e : Entry Access Answer) → P e → P (entryOf (roleOf n o κ e))
+  role-entry : (n : ℕ) (o : List (ℕ × Transfer)) (κ : TransferAction Transfer) (e : Entry Access Answer) → P e → P (entryOf (roleOf n o κ e))
   role-entry n o resets e p = p
   role-entry n o (starts t) e p = p
   role-entry n [] (steps last) e p = p
   role-entry n (h ∷ o) (steps last) e p = p
   role-entry n o none e p = p
 
-  roles-all : (n : ℕ) (o : List (ℕ × Transfer)) (es : List (Entry Access Answer)) → All P es → AllRoles P (rolesFrom bearing n o es)
+  roles-all : (n : ℕ) (o : List (ℕ × Transfer)) (es : List (Entry Access Answer)) → All P es → AllRoles P (rolesFrom actionOf n o es)
   roles-all n o [] p = tt
-  roles-all n o (e ∷ es) p = (role-entry n o (bearing e) e (p .0), roles-all (countAfter n (bearing e)) (openAfter (λ t. (n, t)) (bearing e) o) es (p .1))
+  roles-all n o (e ∷ es) p = (role-entry n o (actionOf e) e (p .0), roles-all (countAfter n (actionOf e)) (openAfter (λ t. (n, t)) (actionOf e) o) es (p .1))
 
   steps-all : (k : ℕ) (l : List (Role Transfer (Entry Access Answer))) → AllRoles P l → All P (stepsOf k l)
   steps-all k [] p = tt
@@ -109,8 +109,8 @@ module _ (machine : World → Access → Outcome Answer World) (still : (w : Wor
   still-moves settings shared window accesses h =
       let w = freshWorld settings shared window in
       let es = run machine w accesses .entries in
-      run-answered w (moved (roles bearing es)) (moved-all (Answered w) (roles bearing es) (roles-all (Answered w) 0 [] es (all-answered w accesses)))
-      ∙ ap (λ z. record { entries = moved (roles bearing es); world = z }) (sym (same-world w accesses))
+      run-answered w (moved (roles actionOf es)) (moved-all (Answered w) (roles actionOf es) (roles-all (Answered w) 0 [] es (all-answered w accesses)))
+      ∙ ap (λ z. record { entries = moved (roles actionOf es); world = z }) (sym (same-world w accesses))
 
 -- THE MACHINE THAT COPIES THE WHOLE TRANSFER AT STEP ONE
 
@@ -120,10 +120,10 @@ module _ (n : ℕ) where
 
 -- the first access of several either stops or goes on
 on-case : (P : Outcome Answer World → Type 0) (n : ℕ) (w : World) (a : Access) →
-    (goesOn (bearing (entryAt access w a)) ≡ false → P (access w a)) → (goesOn (bearing (entryAt access w a)) ≡ true → P (stepsOn n (access w a .world) a)) → P (stepsOn (suc n) w a)
-on-case P n w a f g = if-case P (goesOn (bearing (entryAt access w a))) (stepsOn n (access w a .world) a) (access w a) g f
+    (goesOn (actionOf (entryAt access w a)) ≡ false → P (access w a)) → (goesOn (actionOf (entryAt access w a)) ≡ true → P (stepsOn n (access w a .world) a)) → P (stepsOn (suc n) w a)
+on-case P n w a f g = if-case P (goesOn (actionOf (entryAt access w a))) (stepsOn n (access w a .world) a) (access w a) g f
 
-goes-on : (κ : Bearing Transfer) → goesOn κ ≡ true → κ ≡ steps false
+goes-on : (κ : TransferAction Transfer) → goesOn κ ≡ true → κ ≡ steps false
 goes-on resets h = no-both h
 goes-on (starts t) h = no-both h
 goes-on (steps true) h = no-both h
@@ -131,61 +131,61 @@ goes-on (steps false) h = refl
 goes-on none h = no-both h
 
 -- a step with V 1 leaves the transfer open
-on-opened : (w : World) (a : Access) → goesOn (bearing (entryAt access w a)) ≡ true → opened (access w a .world) ≡ opened w
-on-opened w a h = rw (goes-on (bearing (entryAt access w a)) h) at (follows w a)
+on-opened : (w : World) (a : Access) → goesOn (actionOf (entryAt access w a)) ≡ true → opened (access w a .world) ≡ opened w
+on-opened w a h = rw (goes-on (actionOf (entryAt access w a)) h) at (follows w a)
 
-on-follows : (n : ℕ) → Follows (stepsOn n) bearing quiet opened
+on-follows : (n : ℕ) → Follows (stepsOn n) actionOf quiet opened
 on-follows zero w a = follows w a
 on-follows (suc n) w a =
-    on-case (λ o. opened (o .world) ≡ openAfter (λ t. t) (bearing (record { access = a; answer = o .answer })) (opened w)) n w a
-    (λ _. follows w a) (λ h. on-follows n (access w a .world) a ∙ ap (openAfter (λ t. t) (bearing (entryOn n (access w a .world) a))) (on-opened w a h))
+    on-case (λ o. opened (o .world) ≡ openAfter (λ t. t) (actionOf (record { access = a; answer = o .answer })) (opened w)) n w a
+    (λ _. follows w a) (λ h. on-follows n (access w a .world) a ∙ ap (openAfter (λ t. t) (actionOf (entryOn n (access w a .world) a))) (on-opened w a h))
 
 -- and the next is a done step again
-on-steps : (n : ℕ) (w : World) (a : Access) (b : Bool) → bearing (entryAt access w a) ≡ steps b → (c : Bool) × (bearing (entryOn n w a) ≡ steps c)
+on-steps : (n : ℕ) (w : World) (a : Access) (b : Bool) → actionOf (entryAt access w a) ≡ steps b → (c : Bool) × (actionOf (entryOn n w a) ≡ steps c)
 on-steps zero w a b h = (b, h)
 on-steps (suc n) w a b h =
-    on-case (λ o. (c : Bool) × (bearing (record { access = a; answer = o .answer }) ≡ steps c)) n w a (λ _. (b, h))
-    (λ g. let k = step-again w a (goes-on (bearing (entryAt access w a)) g) in on-steps n (access w a .world) a (k .0) (k .1))
+    on-case (λ o. (c : Bool) × (actionOf (record { access = a; answer = o .answer }) ≡ steps c)) n w a (λ _. (b, h))
+    (λ g. let k = step-again w a (goes-on (actionOf (entryAt access w a)) g) in on-steps n (access w a .world) a (k .0) (k .1))
 
 -- so an access that is no done step is no done step of the card's, and the same
-on-none : (n : ℕ) (w : World) (o : Access) → ((c : Bool) → bearing (entryOn n w o) ≢ steps c) → (c : Bool) → bearing (entryAt access w o) ≢ steps c
+on-none : (n : ℕ) (w : World) (o : Access) → ((c : Bool) → actionOf (entryOn n w o) ≢ steps c) → (c : Bool) → actionOf (entryAt access w o) ≢ steps c
 on-none n w o h c e = let k = on-steps n w o c e in h (k .0) (k .1)
 
-on-other : (n : ℕ) (w : World) (o : Access) → ((c : Bool) → bearing (entryAt access w o) ≢ steps c) → stepsOn n w o ≡ access w o
+on-other : (n : ℕ) (w : World) (o : Access) → ((c : Bool) → actionOf (entryAt access w o) ≢ steps c) → stepsOn n w o ≡ access w o
 on-other zero w o h = refl
 on-other (suc n) w o h =
-    on-case (λ r. r ≡ access w o) n w o (λ _. refl) (λ g. absurd (h false (goes-on (bearing (entryAt access w o)) g)))
+    on-case (λ r. r ≡ access w o) n w o (λ _. refl) (λ g. absurd (h false (goes-on (actionOf (entryAt access w o)) g)))
 
 -- a quiet access and several steps change places one by one
-on-exchange : (n : ℕ) (w : World) (o s : Access) (t : Transfer) (l : List Transfer) → opened w ≡ t ∷ l → ((c : Bool) → bearing (entryAt access w o) ≢ steps c) → quiet t (entryAt access w o) ≡ true →
-    (b : Bool) → bearing (entryOn n (access w o .world) s) ≡ steps b →
+on-exchange : (n : ℕ) (w : World) (o s : Access) (t : Transfer) (l : List Transfer) → opened w ≡ t ∷ l → ((c : Bool) → actionOf (entryAt access w o) ≢ steps c) → quiet t (entryAt access w o) ≡ true →
+    (b : Bool) → actionOf (entryOn n (access w o .world) s) ≡ steps b →
     (stepsOn n w s .answer ≡ stepsOn n (access w o .world) s .answer) × (access (stepsOn n w s .world) o .answer ≡ access w o .answer) × (access (stepsOn n w s .world) o .world ≡ stepsOn n (access w o .world) s .world)
 on-exchange zero w o s t l u y c b h = let x = exchange w o s t l b u y c h in (x .step, x .other, x .world)
 on-exchange (suc n) w o s t l u y c b h =
-    by (bearing (entryAt access (access w o .world) s)) refl (λ b h. exchange w o s t l b u y c h) (λ w′ v z d b h. on-exchange n w′ o s t l v z d b h) h
+    by (actionOf (entryAt access (access w o .world) s)) refl (λ b h. exchange w o s t l b u y c h) (λ w′ v z d b h. on-exchange n w′ o s t l v z d b h) h
   where
-    by : (κ : Bearing Transfer) → bearing (entryAt access (access w o .world) s) ≡ κ → ((b : Bool) → bearing (entryAt access (access w o .world) s) ≡ steps b → Exchanged access bearing quiet opened w o s) →
-        ((w′ : World) → opened w′ ≡ t ∷ l → ((c : Bool) → bearing (entryAt access w′ o) ≢ steps c) → quiet t (entryAt access w′ o) ≡ true → (b : Bool) → bearing (entryOn n (access w′ o .world) s) ≡ steps b →
+    by : (κ : TransferAction Transfer) → actionOf (entryAt access (access w o .world) s) ≡ κ → ((b : Bool) → actionOf (entryAt access (access w o .world) s) ≡ steps b → Exchanged access actionOf quiet opened w o s) →
+        ((w′ : World) → opened w′ ≡ t ∷ l → ((c : Bool) → actionOf (entryAt access w′ o) ≢ steps c) → quiet t (entryAt access w′ o) ≡ true → (b : Bool) → actionOf (entryOn n (access w′ o .world) s) ≡ steps b →
         (stepsOn n w′ s .answer ≡ stepsOn n (access w′ o .world) s .answer) × (access (stepsOn n w′ s .world) o .answer ≡ access w′ o .answer) × (access (stepsOn n w′ s .world) o .world ≡ stepsOn n (access w′ o .world) s .world)) →
-        bearing (entryOn (suc n) (access w o .world) s) ≡ steps b →
+        actionOf (entryOn (suc n) (access w o .world) s) ≡ steps b →
         (stepsOn (suc n) w s .answer ≡ stepsOn (suc n) (access w o .world) s .answer) × (access (stepsOn (suc n) w s .world) o .answer ≡ access w o .answer) × (access (stepsOn (suc n) w s .world) o .world ≡ stepsOn (suc n) (access w o .world) s .world)
     by resets e x i h = absurd (let g = rw e at h in let z : _≡_ {A = ℕ} 0 1 = cc in omega arith)
     by (starts u) e x i h = absurd (let g = rw e at h in let z : _≡_ {A = ℕ} 0 1 = cc in omega arith)
     by none e x i h = absurd (let g = rw e at h in let z : _≡_ {A = ℕ} 0 1 = cc in omega arith)
     by (steps true) e x i h =
         let k = x true e in
-        let f : bearing (entryAt access w s) ≡ steps true = rw (k .step) e in
+        let f : actionOf (entryAt access w s) ≡ steps true = rw (k .step) e in
         rw (e, f) (k .step, k .other, k .world)
     by (steps false) e x i h =
         let k = x false e in
-        let f : bearing (entryAt access w s) ≡ steps false = rw (k .step) e in
+        let f : actionOf (entryAt access w s) ≡ steps false = rw (k .step) e in
         let w′ = access w s .world in
         let z = i w′ (on-opened w s (ap goesOn f) ∙ u) (rw (k .other) y) (rw (k .other) c) b (rw (k .world) (rw e at h)) in
         rw (e, f) (z .0 ∙ ap (λ v. stepsOn n v s .answer) (k .world), z .1 ∙ k .other, z .2 ∙ ap (λ v. stepsOn n v s .world) (k .world))
 
 on-moves : (n : ℕ) → StepsMove (stepsOn n)
 on-moves n settings shared window accesses =
-    moved-same (stepsOn n) bearing quiet opened (on-follows n)
+    moved-same (stepsOn n) actionOf quiet opened (on-follows n)
     (λ w o s t l b u y c h.
     let y′ = on-none n w o y in
     let e : stepsOn n w o ≡ access w o = on-other n w o y′ in
@@ -209,7 +209,7 @@ pub copies-whole-moves : StepsMove copiesWhole
 unfolding copiesWhole
 copies-whole-moves = on-moves 4095
 
--- an empty FIFO read on the bench, and an entry put
+-- the equation with the definition: "demand 2 shuts them out"
 abbrev IsCard : (World → Access → Outcome Answer World) → Type 0
 IsCard machine = (w : World) (a : Access) → machine w a ≡ access w a
 

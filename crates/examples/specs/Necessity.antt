@@ -1,4 +1,4 @@
--- No condition of rule 3's premise is idle: for each, a list that breaks only it, and for which the conclusion is false, computed on the bench.
+-- No condition of rule 3's premise but the done reset is idle: for each other one, a list that breaks only it, and for which the conclusion is false, computed on the bench.
 -- A done reset is left out: it cannot stand between a start and a step of the same transfer.
 use mathlib.Core.Path.{_≡_, refl, ap, sym, _∙_}
 use mathlib.Core.Bool.{Bool, true, false, not, _&&_, _||_}
@@ -15,7 +15,7 @@ use Rattle.model.specs.Accesses.{Access, Answer, access}
 use Rattle.model.specs.TestLaws.{no-both}
 use Rattle.model.specs.Bench.{q, replaySettings, bench}
 use Rattle.reordering.specs.Roles.{roles, moved}
-use Rattle.reordering.specs.Reordering.{Touch, starting, resetting, readingInterrupts, writingInterrupts, askingLine, reading, writing, touches, inSource, disturbs, bearing, StepsMoveIf}
+use Rattle.reordering.specs.Reordering.{Touch, starting, resetting, readingInterrupts, writingInterrupts, askingLine, reading, writing, touches, inSource, disturbs, actionOf, StepsMoveIf}
 use Rattle.reordering.specs.Premise.{undisturbed, premise}
 
 -- THE CONDITIONS, each with a number of its own
@@ -64,14 +64,14 @@ same-refl [] = refl
 same-refl (n ∷ l) = rw (eq-eqb n n refl) (same-refl l)
 
 abbrev movedList : List Access → List (Entry Access Answer)
-movedList accesses = moved (roles bearing (run access bench accesses .entries))
+movedList accesses = moved (roles actionOf (run access bench accesses .entries))
 
-refuted : (c : Condition) (accesses : List Access) → undisturbed (quietBut c) (roles bearing (run access bench accesses .entries)) ≡ true →
+refuted : (c : Condition) (accesses : List Access) → undisturbed (quietBut c) (roles actionOf (run access bench accesses .entries)) ≡ true →
     same (values (run access bench (map (λ e. e .access) (movedList accesses)) .entries)) (values (movedList accesses)) ≡ false → StepsMoveIf (quietBut c) access → ⊥
 unfolding bench
 refuted c accesses h d claim =
     let l = values (run access bench (map (λ e. e .access) (movedList accesses)) .entries) in
-    let e = claim replaySettings (replicate 16384 0) (replicate 32768 0) accesses (premise (quietBut c) (roles bearing (run access bench accesses .entries)) h) in
+    let e = claim replaySettings (replicate 16384 0) (replicate 32768 0) accesses (premise (quietBut c) (roles actionOf (run access bench accesses .entries)) h) in
     no-both (sym d ∙ sym (ap (λ r. same l (values (r .entries))) e) ∙ same-refl l)
 
 -- a start that is refused because the transfer runs would be done after it

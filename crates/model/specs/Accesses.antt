@@ -74,7 +74,7 @@ abbrev pub _⇒_ : List Check → Effect → Row
 _⇒_ checks effect = record { checks = checks; effect = effect }
 
 -- `w` is the card with both memories, `side` the caller; `s`, `a`, `b` and `c` are the access's fields.
--- A row reads: refused with 3 for this cause, else with 4 for that one, ..; else done, with V, X, the changes, and a dword stored.
+-- "Where V or X is not named it is 0." A row reads: refused with 3 for this cause, else with 4 for that one, ..; else done, with V, X, the changes, and a dword stored.
 abbrev pub row : Kind → World → Side → (s a b c : ℕ) → Row
 -- 0 reset | none | registers as fresh; settings and memories stay
 row reset w side s a b c =
@@ -157,12 +157,12 @@ row interruptWrite w side s a b c =
     3 for nonzero (s ∷ a ∷ c ∷ [])
     ∷ []
     ⇒ registerWritten side b
--- 13 line | none | V 1 active, else 0
+-- 13 line | none | V 1 active, else 0: the caller's own line
 row line w side s a b c =
     3 for nonzero (s ∷ a ∷ b ∷ c ∷ [])
     ∷ []
     ⇒ done (if active side (w .card) then 1 else 0) 0 []
--- 14 start | S direction, A shared, B PCI address, C size | V = size / 4
+-- 14 start | S direction, A shared, B PCI address, C size | V = size / 4. "The window is not consulted at a start."
 row start w side s a b c =
     directionCheck (transferOf s a b c)
     ∷ 6 for not (isIdle (w .card .dma))

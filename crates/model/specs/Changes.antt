@@ -80,8 +80,8 @@ raisedIn e r = record { enables = r .enables; status = insert (r .status) e }
 abbrev pub clearedIn : (bits : ℕ) → Register → Register
 clearedIn bits r = record { enables = r .enables; status = without (r .status) bits }
 
-abbrev pub enabledIn : (enables : ℕ) → Register → Register
-enabledIn n r = record { enables = n; status = r .status }
+abbrev pub enablesIn : (enables : ℕ) → Register → Register
+enablesIn n r = record { enables = n; status = r .status }
 
 -- THE RECORD AFTERWARDS
 
@@ -93,7 +93,7 @@ apply (flagIs side i b) s = withFlags (set (s .flags) i (withFlag side b (pair s
 apply (mailIs side d) s = withMailboxes (withMail side d (s .mailboxes)) s
 apply (raised side e) s = onRegister side (raisedIn e) s
 apply (cleared side bits) s = onRegister side (clearedIn bits) s
-apply (enablesAre side n) s = onRegister side (enabledIn n) s
+apply (enablesAre side n) s = onRegister side (enablesIn n) s
 apply (dmaIs d) s = withDma d s
 
 -- one after another
@@ -101,7 +101,7 @@ abbrev pub applyAll : List Change → State → State
 applyAll [] s = s
 applyAll (c ∷ cs) s = applyAll cs (apply c s)
 
--- "in both registers"
+-- "Events 0, 1, 5, 8, 9 are raised in both registers and cleared separately (our rule)."
 abbrev pub raisedInBoth : Event → List Change
 raisedInBoth e = raised host e ∷ raised local e ∷ []
 

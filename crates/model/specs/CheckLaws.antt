@@ -5,8 +5,13 @@ use mathlib.Core.List.{List, [], _∷_, _++_}
 use Prim.Native.Nat.{ℕ, zero, suc, _≤_, _<_}
 use native.Mathlib.Omega.{arith}
 use Rattle.model.specs.Choice.{if_then_else_}
-use Rattle.model.specs.Checks.{Check, refusal, Ascending, Holds, here, there, Smallest}
+use Rattle.model.specs.Checks.{Check, refusal, Holds, here, there, Smallest}
 use Rattle.model.specs.TestLaws.{no-both}
+
+-- The numbers of a row ascend, from `n` on.
+abbrev pub Ascending : (n : ℕ) → List Check → Type 0
+Ascending n [] = Unit {0}
+Ascending n (c ∷ cs) = (n ≤ c .number) × Ascending (c .number) cs
 
 from : {n m : ℕ} {cs : List Check} → Ascending n cs → Holds m cs → n ≤ m
 from a (here e) = a .0

@@ -12,7 +12,7 @@ use Rattle.model.specs.Events.{Event, position, bit, mask, insert, commo
 
 -- THE BITS OF A NUMBER
 
-bit-next : (p n : ℕ) → bit (suc p) n ≡ bit p (n / 2)
+pub bit-next : (p n : ℕ) → bit (suc p) n ≡ bit p (n / 2)
 bit-next p n = rw (pow-succ', ← div-div-eq-div-mul)
 
 -- what holds of the binary digits holds of the lowest digits of two numbers

@@ -14,7 +14,7 @@ use Rattle.model.specs.Choice.{if_then_else_, every}
 use Rattle.model.specs.Checks.{refusal}
 use Rattle.model.specs.Sides.{sideOf, other}
 use Rattle.model.specs.Events.{bit}
-use Rattle.model.specs.State.{Settings, Dma, idle, running, State, World, above, settingsPass, Made, freshCard, freshWorld}
+use Rattle.model.specs.State.{Settings, Dma, idle, running, State, World, above, settingsPass, NewCard, freshCard, freshWorld}
 use Rattle.model.specs.Changes.{Change, mailIs, fifo, pair, flag, applyAll, Effect, worldAfter}
 use Rattle.model.specs.FifosAndFlags.{takenFrom, putInto}
 use Rattle.model.specs.Steps.{inAbortRange, outsideWindow, pciOf, stepped}
@@ -211,7 +211,7 @@ accounts i w (q ∷ accesses) =
 
 fresh-empty : (s : Settings) (i : ℕ) → fifo (freshCard s .card) i ≡ []
 unfolding freshCard
-fresh-empty s i = if-case (λ (m : Made). fifo (m .card) i ≡ []) (settingsPass s) _ _ (λ _. all-empty 4 i) (λ _. all-empty 4 i)
+fresh-empty s i = if-case (λ (m : NewCard). fifo (m .card) i ≡ []) (settingsPass s) _ _ (λ _. all-empty 4 i) (λ _. all-empty 4 i)
 
 -- THE LAWS
 

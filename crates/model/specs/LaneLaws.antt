@@ -194,3 +194,12 @@ read-back m a l v h = ap dwordOf (loads-stores (bytesOf 4 v) m a l h)
 pub apart-far : (a l a′ l′ : ℕ) → (a + 4 ≤ a′) ⊎ (a′ + 4 ≤ a) → Apart a l a′ l′
 apart-far a l a′ l′ (inl h) i c d = omega (arith, covers-below 4 a l i c, covers-from 4 a′ l′ i d)
 apart-far a l a′ l′ (inr h) i c d = omega (arith, covers-from 4 a l i c, covers-below 4 a′ l′ i d)
+
+-- "Lanes 15 is done, stores nothing and reads 0."
+pub lanes-15-read : (m : List ℕ) (a : ℕ) → readDword m a 15 ≡ 0
+unfolding readDword
+lanes-15-read m a = refl
+
+pub lanes-15-write : (m : List ℕ) (a v : ℕ) → writeDword m a 15 v ≡ m
+unfolding writeDword
+lanes-15-write m a v = refl

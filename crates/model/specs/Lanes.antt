@@ -2,7 +2,7 @@
 -- Each definition goes one lane at a time: lane 0 first, its bit the lowest of the lane mask, its byte at the address.
 use mathlib.Core.Bool.{Bool}
 use mathlib.Core.List.{List, [], _∷_}
-use Prim.Native.Nat.{ℕ, zero, suc, _+_, _*_, _/_, _%_}
+use Prim.Native.Nat.{ℕ, zero, suc, _+_, _*_, _/_, _%_, _^_}
 use lib.ListN.{getD, set}
 use lib.Dec.{eqb}
 use Rattle.model.specs.Choice.{if_then_else_}
@@ -16,6 +16,10 @@ dwordOf (b ∷ bs) = b + 256 * dwordOf bs
 abbrev pub bytesOf : (n dword : ℕ) → List ℕ
 bytesOf zero v = []
 bytesOf (suc n) v = v % 256 ∷ bytesOf n (v / 256)
+
+-- byte `k` of a number
+abbrev pub byteOf : (number k : ℕ) → ℕ
+byteOf n k = n / 256 ^ k % 256
 
 -- "Lane bits are active low: 0 enables." Of a lane mask, whether its lowest lane is enabled.
 abbrev pub enabled : (lanes : ℕ) → Bool
@@ -31,6 +35,7 @@ abbrev pub stores : (bytes memory : List ℕ) → (at lanes : ℕ) → List ℕ
 stores [] m at lanes = m
 stores (b ∷ bs) m at lanes = stores bs (if enabled lanes then set m at b else m) (at + 1) (lanes / 2)
 
+-- "Lanes 15 is done, stores nothing and reads 0" (`LaneLaws`).
 unfoldable pub readDword : (memory : List ℕ) → (at lanes : ℕ) → ℕ
 readDword m at lanes = dwordOf (loads 4 m at lanes)
 

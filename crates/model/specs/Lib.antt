@@ -20,8 +20,14 @@ pub mod EventLaws
 pub mod KindNumbers
 pub mod KindLaws
 pub mod Refusals
+pub mod InterruptLaws
+pub mod SourceLaws
 pub mod Soundness
 pub mod FifoRuns
 pub mod PinLaws
 pub mod Bench
 pub mod BenchCases
+pub mod Trace
+pub mod TraceLaws
+pub mod Text
+pub mod TextLaws

@@ -9,7 +9,8 @@ use Rattle.model.specs.Events.{mailbox, bit}
 use Rattle.model.specs.State.{Mailboxes}
 use Rattle.model.specs.Changes.{Effect, done, mailIs, raised}
 
--- "A write stores bits 15 to 0; bit 24 set raises event 3 for the other side; other bits are ignored."
+-- "A write stores bits 15 to 0; bit 24 set raises event 3 for the other side; other bits are ignored. Bit 24 clear
+-- raises and clears nothing."
 abbrev pub mailWritten : Side → (b : ℕ) → Effect
 mailWritten side b = done 0 0 (mailIs side (b % 65536) ∷ (if bit 24 b then raised (other side) mailbox ∷ [] else []))
 
@@ -18,7 +19,7 @@ abbrev pub mailFor : Side → Mailboxes → ℕ
 mailFor host m = m .lhdata
 mailFor local m = m .hldata
 
--- "The label on the bay is its index plus one."
+-- "On local to host, byte 0 is a bay index, 0 to 23. The label on the bay is its index plus one."
 abbrev pub bayLabel : (index : ℕ) → ℕ
 bayLabel index = index + 1
 

@@ -8,8 +8,8 @@ use native.Mathlib.Nat.{div-one, div-div-eq-div-mul, pow-succ', zero-add, zero-d
 use lib.ListN.{getD}
 use borrow.Author.Tests.{le-ltb}
 use Rattle.model.specs.Choice.{if_then_else_}
-use Rattle.model.specs.Lanes.{enabled, dwordOf}
-use Rattle.model.specs.Pins.{lanesOf, dataByte, byteOf, laneValues, decode}
+use Rattle.model.specs.Lanes.{enabled, dwordOf, byteOf}
+use Rattle.model.specs.Pins.{lanesOf, dataByte, laneValues, decode}
 use Rattle.model.specs.TestLaws.{or-false, if-case}
 
 -- ANY NUMBER OF LANES

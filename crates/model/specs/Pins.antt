@@ -4,7 +4,7 @@ use mathlib.Core.List.{List, [], _∷_}
 use Prim.Native.Nat.{ℕ, zero, suc, _+_, _-_, _*_, _/_, _%_, _^_}
 use lib.ListN.{getD}
 use Rattle.model.specs.Choice.{if_then_else_}
-use Rattle.model.specs.Lanes.{enabled, dwordOf}
+use Rattle.model.specs.Lanes.{enabled, dwordOf, byteOf}
 use Rattle.model.specs.Events.{bit}
 use Rattle.model.specs.State.{above}
 
@@ -25,7 +25,7 @@ motorolaRows =
     ∷ 0b0011 ∷ 0b1011 ∷ 0b1100 ∷ 0b1110
     ∷ [])
 
--- the lane mask; mode 3: "lanes are the pins"
+-- The lane mask; mode 3: "32 bits, lanes are the pins". "Pins not named are ignored."
 abbrev pub lanesOf : (mode pins : ℕ) → ℕ
 lanesOf mode pins = getD (lanes8 pins ∷ lanes16 pins ∷ getD motorolaRows pins 15 ∷ pins ∷ []) mode 15
 
@@ -33,10 +33,6 @@ lanesOf mode pins = getD (lanes8 pins ∷ lanes16 pins ∷ getD motorolaRows pin
 -- its own in mode 3.
 abbrev pub dataByte : (mode lane : ℕ) → ℕ
 dataByte mode lane = getD (0 ∷ lane % 2 ∷ lane % 2 ∷ lane ∷ []) mode 0
-
--- byte `k` of a number
-abbrev pub byteOf : (number k : ℕ) → ℕ
-byteOf n k = n / 256 ^ k % 256
 
 -- What `n` lanes hold from lane `k` on, where lane j carries `carried j`: 0 where the lane is unused.
 abbrev pub laneValues : (n : ℕ) → (carried : ℕ → ℕ) → (k lanes : ℕ) → List ℕ

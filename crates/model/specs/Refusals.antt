@@ -1,17 +1,17 @@
 -- Rule 1: every access gets the smallest number whose cause holds, and a refusal answers two zeros and leaves the world as it was.
 -- Each row's numbers ascend, so the law of a row of checks gives it.
 use mathlib.Core.Path.{_≡_, refl, ap, _∙_}
-use mathlib.Core.Logic.{_≢_}
+use mathlib.Core.Logic.{_≢_, _↔_}
 use mathlib.Core.List.{List, [], _∷_}
 use Prim.Native.Nat.{ℕ, zero, suc, _≤_, _<_}
+use native.Mathlib.Omega.{arith}
 use lib.Dec.{lit≤, lit<}
-use Rattle.model.specs.Checks.{refusal, Ascending, Smallest}
-use Rattle.model.specs.State.{Settings, Transfer, World}
+use Rattle.model.specs.Checks.{refusal, Holds, Smallest}
+use Rattle.model.specs.State.{World}
 use Rattle.model.specs.Changes.{Effect, worldAfter}
 use Rattle.model.specs.Runs.{Outcome}
 use Rattle.model.specs.Accesses.{Access, Answer, Kind, reset, sharedRead, sharedWrite, windowRead, windowWrite, take, put, claim, release, mailboxWrite, mailboxRead, interruptRead, interruptWrite, line, start, step, externalPin, unknown, kindOf, rowOf, checks, settled, access}
-use Rattle.model.specs.Source.{sourceChecks}
-use Rattle.model.specs.CheckLaws.{smallest, Pass, passed}
+use Rattle.model.specs.CheckLaws.{Ascending, smallest, Pass, passed}
 
 pub row-ascending : (k : Kind) (w : World) (q : Access) → Ascending 2 (rowOf k w q .checks)
 row-ascending reset w q = (lit≤ tt, tt)
@@ -49,10 +49,20 @@ number-is w q = by (refusal (checks w q)) (rowOf (kindOf (q .kind)) w q .effect)
 pub number-smallest : (w : World) (q : Access) → Smallest (access w q .answer .number) (checks w q)
 number-smallest w q = rw (number-is w q) (smallest 1 (lit< tt) (checks w q) (ascending w q))
 
--- the same of a request for a source
-pub source-smallest : (s : Settings) (shared window : List ℕ) (t : Transfer) → Smallest (refusal (sourceChecks s shared window t)) (sourceChecks s shared window t)
-source-smallest s shared window t =
-    smallest 1 (lit< tt) (sourceChecks s shared window t) (lit≤ tt, (lit≤ tt, (lit≤ tt, (lit≤ tt, (lit≤ tt, (lit≤ tt, tt))))))
+-- "each is given if and only if its cause holds and no smaller one does"
+pub given-iff : (w : World) (q : Access) (n : ℕ) → 0 < n →
+    (access w q .answer .number ≡ n) ↔ (Holds n (checks w q) × ((m : ℕ) → Holds m (checks w q) → n ≤ m))
+given-iff w q n z = (forth (access w q .answer .number) (number-smallest w q), back (access w q .answer .number) (number-smallest w q))
+  where
+    forth : (k : ℕ) → Smallest k (checks w q) → k ≡ n → Holds n (checks w q) × ((m : ℕ) → Holds m (checks w q) → n ≤ m)
+    forth k s e = (rw e at (s .held (omega arith)), λ m h. let l = s .least m h .1 in omega arith)
+
+    back : (k : ℕ) → Smallest k (checks w q) → Holds n (checks w q) × ((m : ℕ) → Holds m (checks w q) → n ≤ m) → k ≡ n
+    back k s p =
+        let a = s .least n (p .0) in
+        let l = a .1 in
+        let g = p .1 k (s .held (a .0)) in
+        omega arith
 
 -- DONE AND REFUSED
 

@@ -12,8 +12,8 @@ use Rattle.model.specs.Choice.{if_then_else_, every}
 use Rattle.model.specs.Checks.{refusal}
 use Rattle.model.specs.Sides.{Side, host, local, sideOf, other}
 use Rattle.model.specs.Events.{Event, mailbox, mask, within, bit, common, storedMask, enableMask}
-use Rattle.model.specs.State.{Settings, Flags, Register, Transfer, Dma, idle, running, State, World, multipleOf4, above, sharedLength, directionCheck, transferChecks, settingsPass, fifoSound, flagsSound, registerSound, dmaSound, soundParts, sound, fresh, Made, freshCard, freshWorld}
-use Rattle.model.specs.Changes.{Change, allFresh, pushed, popped, flagIs, mailIs, raised, cleared, enablesAre, dmaIs, fifo, pair, register, withFlag, withRegister, withInterrupts, raisedIn, clearedIn, enabledIn, apply, applyAll, raisedInBoth, Store, nothing, toShared, toWindow, sharedAfter, windowAfter, Effect}
+use Rattle.model.specs.State.{Settings, Flags, Register, Transfer, Dma, idle, running, State, World, multipleOf4, above, sharedLength, directionCheck, transferChecks, settingsPass, fifoSound, flagsSound, registerSound, dmaSound, soundParts, sound, fresh, NewCard, freshCard, freshWorld}
+use Rattle.model.specs.Changes.{Change, allFresh, pushed, popped, flagIs, mailIs, raised, cleared, enablesAre, dmaIs, fifo, pair, register, withFlag, withRegister, withInterrupts, raisedIn, clearedIn, enablesIn, apply, applyAll, raisedInBoth, Store, nothing, toShared, toWindow, sharedAfter, windowAfter, Effect}
 use Rattle.model.specs.FifosAndFlags.{takenFrom, overflow, putInto, claimed}
 use Rattle.model.specs.Mailboxes.{mailWritten}
 use Rattle.model.specs.Steps.{inAbortRange, outsideWindow, pciOf, stepped}
@@ -100,7 +100,7 @@ keeps (cleared side bits) s f p =
     register-kept side (clearedIn bits r) s (and-true (within-without (r .status) bits (storedMask side) (and-left _ _ h)) (and-right (within (r .status) (storedMask side)) _ h)) p
 keeps (enablesAre side n) s f p =
     let r = register side (s .interrupts) in
-    register-kept side (enabledIn n r) s (and-true (and-left (within (r .status) (storedMask side)) (within (r .enables) (enableMask side)) (register-sound side s p)) f) p
+    register-kept side (enablesIn n r) s (and-true (and-left (within (r .status) (storedMask side)) (within (r .enables) (enableMask side)) (register-sound side s p)) f) p
 keeps (dmaIs d) s f p = record { settings = p .settings; fifoCount = p .fifoCount; fifos = p .fifos; pairCount = p .pairCount; flags = p .flags; hldata = p .hldata; lhdata = p .lhdata; hint = p .hint; lint = p .lint; dma = f }
 
 keeps-all : (cs : List Change) (s : State) → FineAll cs s → Sound s → Sound (applyAll cs s)
@@ -263,6 +263,6 @@ done-fit w q h = not-false (fit w) (checks-passed w q h .0)
 -- every fresh card is sound, that of failing settings too
 pub fresh-sound : (s : Settings) → sound (freshCard s .card) ≡ true
 unfolding freshCard
-fresh-sound s = parts-sound _ (if-case (λ (m : Made). Sound (m .card)) (settingsPass s) _ _
+fresh-sound s = parts-sound _ (if-case (λ (m : NewCard). Sound (m .card)) (settingsPass s) _ _
     (λ e. record { settings = e; fifoCount = refl; fifos = refl; pairCount = refl; flags = refl; hldata = refl; lhdata = refl; hint = refl; lint = refl; dma = refl })
     (λ _. record { settings = refl; fifoCount = refl; fifos = refl; pairCount = refl; flags = refl; hldata = refl; lhdata = refl; hint = refl; lint = refl; dma = refl }))

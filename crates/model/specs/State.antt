@@ -1,4 +1,6 @@
 -- Document 01, "The part we model": settings, the card's record, both memories, sound records, the fresh card.
+-- Numbers are natural numbers without a bound. Document 01's widths are the code's: kind, side, S and the bytes of a memory are below 256;
+-- settings, A, B, C and FIFO entries below 4,294,967,296. Of numbers within them each definition says what document 01 says; of others nothing is meant.
 use mathlib.Core.Bool.{Bool, true, false, not, _&&_, _||_}
 use mathlib.Core.List.{List, [], _∷_}
 use Prim.Native.Nat.{ℕ, _+_, _/_, _%_}
@@ -9,7 +11,8 @@ use Rattle.model.specs.Checks.{Check, _for_, refusal}
 use Rattle.model.specs.Sides.{Side, host, local}
 use Rattle.model.specs.Events.{within, storedMask, enableMask}
 
--- "Settings: window base, window length, and a target-abort range given as two offsets lo and hi (lo included, hi not)."
+-- "Settings: window base, window length, and a target-abort range given as two offsets lo and hi (lo included, hi not). All four are 32-bit
+-- numbers."
 pub record Settings : Type 0 where
   pub base : ℕ
   pub length : ℕ
@@ -21,7 +24,7 @@ pub record Flags : Type 0 where
   pub ofHost : Bool
   pub ofLocal : Bool
 
--- HLDATA goes from host to local, LHDATA back; `written`: LHDATA was written since reset.
+-- "HLDATA (0x04E8) goes from host to local, LHDATA (0x04F8) back." `written`: LHDATA was written since reset.
 pub record Mailboxes : Type 0 where
   pub hldata : ℕ
   pub lhdata : ℕ
@@ -32,6 +35,7 @@ pub record Register : Type 0 where
   pub enables : ℕ
   pub status : ℕ
 
+-- "HINT is the host's, LINT (0x04F4) the local side's."
 pub record Interrupts : Type 0 where
   pub hint : Register
   pub lint : Register
@@ -163,12 +167,12 @@ fresh settings = record {
 }
 
 -- what a caller who asks for a card gets
-pub record Made : Type 0 where
+pub record NewCard : Type 0 where
   pub number : ℕ
   pub card : State
 
 -- "Failing settings give refusal 1 and the fresh card of all-zero settings."
-unfoldable pub freshCard : Settings → Made
+unfoldable pub freshCard : Settings → NewCard
 freshCard s =
     if settingsPass s
     then record { number = 0; card = fresh s }

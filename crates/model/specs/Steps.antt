@@ -9,11 +9,12 @@ use Rattle.model.specs.Events.{dmaComplete, targetAbort, masterAbort}
 use Rattle.model.specs.State.{Settings, Transfer, Dma, idle, running, World, misplaced}
 use Rattle.model.specs.Changes.{Store, toShared, toWindow, Effect, done, _storing_, dmaIs, raisedInBoth}
 
--- a PCI address in the target-abort range: lo included, hi not
+-- A PCI address in the target-abort range: lo included, hi not. "The abort range bears on steps alone; kinds 3 and 4 reach it like the rest of
+-- the window."
 abbrev pub inAbortRange : Settings → (pci : ℕ) → Bool
 inAbortRange s at = leb (s .base + s .lo) at && ltb at (s .base + s .hi)
 
--- a PCI address that is no multiple of 4, or whose four bytes leave the window
+-- "For 1 to 4, refusal 9 covers an address that is no multiple of 4 or whose four bytes leave the memory": here, the window.
 abbrev pub outsideWindow : Settings → (pci : ℕ) → Bool
 outsideWindow s at = misplaced at 4 (s .base) (s .base + s .length)
 

@@ -11,19 +11,19 @@ use Rattle.model.specs.State.{Settings, Transfer, Dma, running, World, dmaSound
 use Rattle.model.specs.Runs.{Entry, entryAt, run}
 use Rattle.model.specs.Accesses.{Access, Answer, access}
 use Rattle.model.specs.Soundness.{sound-parts, stays-sound, fresh-sound, sound-transfer}
-use Rattle.reordering.specs.Roles.{Bearing, resets, starts, steps, none, openAfter, countAfter, Role, startOf, stepOf, neither, roleOf, rolesFrom, roles, stepsOf}
-use Rattle.reordering.specs.Reordering.{quiet, bearing}
+use Rattle.reordering.specs.Roles.{TransferAction, resets, starts, steps, none, openAfter, countAfter, Role, startOf, stepOf, neither, roleOf, rolesFrom, roles, stepsOf}
+use Rattle.reordering.specs.Reordering.{quiet, actionOf}
 use Rattle.reordering.specs.Moving.{absent, end, same, opened-next}
 use Rattle.reordering.specs.Stepping.{opened, openIn, After, dma-after, follows}
 use Rattle.reordering.specs.Exchange.{fresh-idle}
 
 -- THE STATEMENT
 
--- With `n` dwords to go: a done step has V 2, 3 or 4 and is the last, or V 1 and leaves dwords to go, one fewer.
+-- With `n` dwords to go: a done step is the last (V 2, 3 or 4), or is not and leaves dwords to go, one fewer.
 abbrev pub EndsWithin : (n : ℕ) → List (Entry Access Answer) → Type 0
 EndsWithin n [] = Unit {0}
 EndsWithin zero (e ∷ l) = ⊥
-EndsWithin (suc n) (e ∷ l) = ((bearing e ≡ steps true) × (l ≡ [])) ⊎ ((bearing e ≡ steps false) × (0 < n) × EndsWithin n l)
+EndsWithin (suc n) (e ∷ l) = ((actionOf e ≡ steps true) × (l ≡ [])) ⊎ ((actionOf e ≡ steps false) × (0 < n) × EndsWithin n l)
 
 -- of every start in the list
 abbrev pub AllEnd : List (Role Transfer (Entry Access Answer)) → Type 0
@@ -37,10 +37,10 @@ AllEnd (neither e ∷ l) = AllEnd l
 -- with transfer k alone open and `i` of its dwords moved
 module _ (k : ℕ) (t : Transfer) where
   within : (accesses : List Access) (w : World) (n i : ℕ) → k < n → sound (w .card) ≡ true → w .card .dma ≡ running t i →
-      EndsWithin (t .size / 4 - i) (stepsOf k (rolesFrom bearing n ((k, t) ∷ []) (run access w accesses .entries)))
+      EndsWithin (t .size / 4 - i) (stepsOf k (rolesFrom actionOf n ((k, t) ∷ []) (run access w accesses .entries)))
   within [] w n i l h d = tt
   within (q ∷ accesses) w n i l h d =
-      by (bearing (entryAt access w q)) refl (dma-after w q) (stays-sound w q h)
+      by (actionOf (entryAt access w q)) refl (dma-after w q) (stays-sound w q h)
       (λ n j m d′. within accesses (access w q .world) n j m (stays-sound w q h) d′)
     where
       w′ : World
@@ -53,12 +53,12 @@ module _ (k : ℕ) (t : Transfer) where
       less w i h d = sound-transfer t i (subst (λ d. dmaSound d ≡ true) d (sound-parts (w .card) h .dma)) .1
 
       -- steps of a transfer that is open no more
-      over : stepsOf k (rolesFrom bearing n [] rest) ≡ []
-      over = absent bearing {n = n} {lo = n} k rest l (end {lo = n} (omega arith))
+      over : stepsOf k (rolesFrom actionOf n [] rest) ≡ []
+      over = absent actionOf {n = n} {lo = n} k rest l (end {lo = n} (omega arith))
 
-      by : (κ : Bearing Transfer) → bearing (entryAt access w q) ≡ κ → After κ (w .card .dma) (access w q .world .card .dma) → sound (access w q .world .card) ≡ true →
-          ((n j : ℕ) → k < n → access w q .world .card .dma ≡ running t j → EndsWithin (t .size / 4 - j) (stepsOf k (rolesFrom bearing n ((k, t) ∷ []) rest))) →
-          EndsWithin (t .size / 4 - i) (stepsOf k (roleOf n ((k, t) ∷ []) κ (entryAt access w q) ∷ rolesFrom bearing (countAfter n κ) (openAfter (λ u. (n, u)) κ ((k, t) ∷ [])) rest))
+      by : (κ : TransferAction Transfer) → actionOf (entryAt access w q) ≡ κ → After κ (w .card .dma) (access w q .world .card .dma) → sound (access w q .world .card) ≡ true →
+          ((n j : ℕ) → k < n → access w q .world .card .dma ≡ running t j → EndsWithin (t .size / 4 - j) (stepsOf k (rolesFrom actionOf n ((k, t) ∷ []) rest))) →
+          EndsWithin (t .size / 4 - i) (stepsOf k (roleOf n ((k, t) ∷ []) κ (entryAt access w q) ∷ rolesFrom actionOf (countAfter n κ) (openAfter (λ u. (n, u)) κ ((k, t) ∷ [])) rest))
       by resets e a s f = rw over tt
       by (starts u) e a s f = absurd (let r = a .0 in let z : _≡_ {A = ℕ} 0 1 = cc in omega arith)
       by (steps true) e a s f =
@@ -80,14 +80,14 @@ module _ (k : ℕ) (t : Transfer) where
 abbrev OpenAs : Dma → List (ℕ × Transfer) → Type 0
 OpenAs d o = openIn d ≡ map (λ h. h .1) o
 
-all-end : (accesses : List Access) (w : World) (n : ℕ) (o : List (ℕ × Transfer)) → sound (w .card) ≡ true → OpenAs (w .card .dma) o → AllEnd (rolesFrom bearing n o (run access w accesses .entries))
+all-end : (accesses : List Access) (w : World) (n : ℕ) (o : List (ℕ × Transfer)) → sound (w .card) ≡ true → OpenAs (w .card .dma) o → AllEnd (rolesFrom actionOf n o (run access w accesses .entries))
 all-end [] w n o h u = tt
 all-end (q ∷ accesses) w n o h u =
-    by (bearing (entryAt access w q)) (dma-after w q) o u (all-end accesses (access w q .world) (countAfter n (bearing (entryAt access w q))) (openAfter (λ t. (n, t)) (bearing (entryAt access w q)) o) (stays-sound w q h) (opened-next access bearing quiet opened follows w q n o u))
+    by (actionOf (entryAt access w q)) (dma-after w q) o u (all-end accesses (access w q .world) (countAfter n (actionOf (entryAt access w q))) (openAfter (λ t. (n, t)) (actionOf (entryAt access w q)) o) (stays-sound w q h) (opened-next access actionOf quiet opened follows w q n o u))
   where
-    by : (κ : Bearing Transfer) → After κ (w .card .dma) (access w q .world .card .dma) → (o : List (ℕ × Transfer)) → OpenAs (w .card .dma) o →
-        AllEnd (rolesFrom bearing (countAfter n κ) (openAfter (λ t. (n, t)) κ o) (run access (access w q .world) accesses .entries)) →
-        AllEnd (roleOf n o κ (entryAt access w q) ∷ rolesFrom bearing (countAfter n κ) (openAfter (λ t. (n, t)) κ o) (run access (access w q .world) accesses .entries))
+    by : (κ : TransferAction Transfer) → After κ (w .card .dma) (access w q .world .card .dma) → (o : List (ℕ × Transfer)) → OpenAs (w .card .dma) o →
+        AllEnd (rolesFrom actionOf (countAfter n κ) (openAfter (λ t. (n, t)) κ o) (run access (access w q .world) accesses .entries)) →
+        AllEnd (roleOf n o κ (entryAt access w q) ∷ rolesFrom actionOf (countAfter n κ) (openAfter (λ t. (n, t)) κ o) (run access (access w q .world) accesses .entries))
     by resets a o u r = r
     by (starts t) a [] u r = (rw sub-zero at (within n t accesses (access w q .world) (suc n) 0 (omega arith) (stays-sound w q h) (a .1)), r)
     by (starts t) a (x ∷ o) u r = absurd (let d = a .0 in let z : _≡_ {A = ℕ} 0 1 = cc in omega arith)
@@ -95,5 +95,5 @@ all-end (q ∷ accesses) w n o h u =
     by (steps last) a (x ∷ o) u r = r
     by none a o u r = r
 
-pub transfers-end : (settings : Settings) (shared window : List ℕ) (accesses : List Access) → AllEnd (roles bearing (run access (freshWorld settings shared window) accesses .entries))
+pub transfers-end : (settings : Settings) (shared window : List ℕ) (accesses : List Access) → AllEnd (roles actionOf (run access (freshWorld settings shared window) accesses .entries))
 transfers-end settings shared window accesses = all-end accesses (freshWorld settings shared window) 0 [] (fresh-sound settings) (fresh-idle settings)

@@ -11,7 +11,7 @@ use borrow.Author.Tests.{lt-ltb, eq-eqb, eqb-true, eqb-false, not-false, not-tru
 use Rattle.model.specs.Choice.{if_then_else_, every}
 use Rattle.model.specs.Checks.{_for_, refusal}
 use Rattle.model.specs.Lanes.{laneBytes}
-use Rattle.model.specs.State.{Settings, Transfer, Dma, idle, running, World, above, dmaSound, settingsPass, Made, freshCard, freshWorld}
+use Rattle.model.specs.State.{Settings, Transfer, Dma, idle, running, World, above, dmaSound, settingsPass, NewCard, freshCard, freshWorld}
 use Rattle.model.specs.Changes.{Effect, worldAfter}
 use Rattle.model.specs.Steps.{pciOf, stepped}
 use Rattle.model.specs.Runs.{Entry, entryAt, run}
@@ -22,8 +22,8 @@ use Rattle.model.specs.LaneLaws.{Covers, lane-byte, covers-pci}
 use Rattle.model.specs.KindNumbers.{numberOf, number-at, kind-at}
 use Rattle.model.specs.Refusals.{number-is, checks-passed, done-is, refused-is}
 use Rattle.model.specs.Soundness.{sound-parts, fit-parts, stays, stays-fit, done-fit}
-use Rattle.reordering.specs.Roles.{Bearing, resets, starts, steps, none, roles, moved, Owned}
-use Rattle.reordering.specs.Reordering.{Place, sharedByte, pciByte, Touch, starting, resetting, readingInterrupts, writingInterrupts, askingLine, reading, writing, doneTouches, startTouches, inRange, inSource, inDestination, disturbs, quiet, doneBearing, bearing, StepsMove}
+use Rattle.reordering.specs.Roles.{TransferAction, resets, starts, steps, none, roles, moved, Owned}
+use Rattle.reordering.specs.Reordering.{Place, sharedByte, pciByte, Touch, starting, resetting, readingInterrupts, writingInterrupts, askingLine, reading, writing, doneTouches, startTouches, inRange, inSource, inDestination, disturbs, quiet, doneAction, actionOf, StepsMove}
 use Rattle.reordering.specs.Moving.{Exchange, Exchanged, moved-same, moved-perm, owned}
 use Rattle.reordering.specs.Commute.{Stepwise, Misses, Like, like, reads-shared, reads-window, swap-effects}
 use Rattle.reordering.specs.Kinds.{PlainKind, plain-effect, plain-changes, plain-dma, plain-fixed, Fixed, same-checks, same-effect}
@@ -71,14 +71,14 @@ module _ (t : Transfer) (q : Access) (r : Answer) (h : quiet t (record { access 
 
 -- DONE STEPS
 
-abbrev isStep : Bearing Transfer → Bool
+abbrev isStep : TransferAction Transfer → Bool
 isStep resets = false
 isStep (starts t) = false
 isStep (steps last) = true
 isStep none = false
 
 -- of the kinds only a step steps
-step-kind : (k : Kind) (q : Access) (v : ℕ) → isStep (doneBearing k q v) ≡ eqb (numberOf k) 15
+step-kind : (k : Kind) (q : Access) (v : ℕ) → isStep (doneAction k q v) ≡ eqb (numberOf k) 15
 step-kind reset q v = refl
 step-kind sharedRead q v = refl
 step-kind sharedWrite q v = refl
@@ -98,10 +98,10 @@ step-kind step q v = refl
 step-kind externalPin q v = refl
 step-kind unknown q v = refl
 
-is-step : (q : Access) (r : Answer) (b : Bool) → bearing (record { access = q; answer = r }) ≡ steps b → (r .number ≡ 0) × (q .kind ≡ 15)
+is-step : (q : Access) (r : Answer) (b : Bool) → actionOf (record { access = q; answer = r }) ≡ steps b → (r .number ≡ 0) × (q .kind ≡ 15)
 is-step q r b h = by (eqb (r .number) 0) refl (ap isStep h)
   where
-    by : (x : Bool) → eqb (r .number) 0 ≡ x → isStep (if x then doneBearing (kindOf (q .kind)) q (r .v) else none) ≡ true → (r .number ≡ 0) × (q .kind ≡ 15)
+    by : (x : Bool) → eqb (r .number) 0 ≡ x → isStep (if x then doneAction (kindOf (q .kind)) q (r .v) else none) ≡ true → (r .number ≡ 0) × (q .kind ≡ 15)
     by true e h =
         let k = eqb-true (numberOf (kindOf (q .kind))) 15 (sym (step-kind (kindOf (q .kind)) q (r .v)) ∙ h) in
         let m = number-at (q .kind) (kindOf (q .kind)) refl in
@@ -139,7 +139,7 @@ like-after w s k h =
     (like (stepped w (w .card .dma) .changes) (stepped-changes w (w .card .dma)) (w .card))
 
 -- a done step that does not end its transfer can be done again
-pub step-again : (w : World) (s : Access) → bearing (entryAt access w s) ≡ steps false → (b : Bool) × (bearing (entryAt access (access w s .world) s) ≡ steps b)
+pub step-again : (w : World) (s : Access) → actionOf (entryAt access w s) ≡ steps false → (b : Bool) × (actionOf (entryAt access (access w s .world) s) ≡ steps b)
 step-again w s h =
     let w′ = access w s .world in
     let z = is-step s (access w s .answer) false h in
@@ -174,7 +174,7 @@ step-refusal o k w w′ f f′ y n h =
     go false false false z′ e h = absurd (omega arith)
 
 -- a refused access, no start, is refused alike before the step
-exchange-refused : (w : World) (o s : Access) (n : ℕ) → o .kind ≢ 14 → refusal (checks w o) ≡ suc n → s .kind ≡ 15 → refusal (checks (access w o .world) s) ≡ 0 → Exchanged access bearing quiet opened w o s
+exchange-refused : (w : World) (o s : Access) (n : ℕ) → o .kind ≢ 14 → refusal (checks w o) ≡ suc n → s .kind ≡ 15 → refusal (checks (access w o .world) s) ≡ 0 → Exchanged access actionOf quiet opened w o s
 exchange-refused w o s n q e k h =
     let r : access w o .world ≡ w = ap (λ p. p .world) (refused-is w o n e) in
     let hs : refusal (checks w s) ≡ 0 = subst (λ x. refusal (checks x s) ≡ 0) r h in
@@ -194,7 +194,7 @@ exchange-refused w o s n q e k h =
 -- DONE ACCESSES
 
 -- a quiet access that is done, and no step, is of a plain kind
-plain-kind : (w : World) (o : Access) (t : Transfer) → refusal (checks w o) ≡ 0 → quiet t (entryAt access w o) ≡ true → ((c : Bool) → bearing (entryAt access w o) ≢ steps c) → PlainKind (kindOf (o .kind))
+plain-kind : (w : World) (o : Access) (t : Transfer) → refusal (checks w o) ≡ 0 → quiet t (entryAt access w o) ≡ true → ((c : Bool) → actionOf (entryAt access w o) ≢ steps c) → PlainKind (kindOf (o .kind))
 plain-kind w o t h q n = by (kindOf (o .kind)) refl
   where
     z : access w o .answer .number ≡ 0
@@ -352,7 +352,7 @@ module _ (w : World) (o s : Access) (t : Transfer) (i : ℕ) (at : w .card .dma 
     unfolding w₁ w₂
     both-ways = swap-effects (InShared w t i) (InWindow w t i) E F (plain-changes (kindOf (o .kind)) plain w o) stores-miss (step-changes w t i) (step-hits w t i) w
 
-    exchange-done : Exchanged access bearing quiet opened w o s
+    exchange-done : Exchanged access actionOf quiet opened w o s
     exchange-done = record {
       step = ap (λ p. p .answer) s-is ∙ sym (ap (λ p. p .answer) s₁-is) ∙ ap (λ x. access x s .answer) (sym (ap (λ p. p .world) o-is));
       other = ap (λ x. access x o .answer) (ap (λ p. p .world) s-is) ∙ ap (λ p. p .answer) o₂-is ∙ sym (ap (λ p. p .answer) o-is);
@@ -361,12 +361,12 @@ module _ (w : World) (o s : Access) (t : Transfer) (i : ℕ) (at : w .card .dma 
 
 -- THE SECOND LAW
 
-pub exchange : Exchange access bearing quiet opened
+pub exchange : Exchange access actionOf quiet opened
 exchange w o s t q b h n calm k =
     let z = is-step s (access (access w o .world) s .answer) b k in
     by (w .card .dma) refl h (z .1) (sym (number-is (access w o .world) s) ∙ z .0) (refusal (checks w o)) refl
   where
-    by : (d : Dma) → w .card .dma ≡ d → openIn d ≡ t ∷ q → s .kind ≡ 15 → refusal (checks (access w o .world) s) ≡ 0 → (m : ℕ) → refusal (checks w o) ≡ m → Exchanged access bearing quiet opened w o s
+    by : (d : Dma) → w .card .dma ≡ d → openIn d ≡ t ∷ q → s .kind ≡ 15 → refusal (checks (access w o .world) s) ≡ 0 → (m : ℕ) → refusal (checks w o) ≡ m → Exchanged access actionOf quiet opened w o s
     by idle g h k z m e = absurd (let z : _≡_ {A = ℕ} 0 1 = cc in omega arith)
     by (running u i) g h k z (suc m) e = exchange-refused w o s m (quiet-no-start t o (access w o .answer) calm) e k z
     by (running u i) g h k z zero e =
@@ -377,16 +377,16 @@ exchange w o s t q b h n calm k =
 
 pub fresh-idle : (s : Settings) → openIn (freshCard s .card .dma) ≡ []
 unfolding freshCard
-fresh-idle s = if-case (λ (m : Made). openIn (m .card .dma) ≡ []) (settingsPass s) _ _ (λ _. refl) (λ _. refl)
+fresh-idle s = if-case (λ (m : NewCard). openIn (m .card .dma) ≡ []) (settingsPass s) _ _ (λ _. refl) (λ _. refl)
 
 pub steps-move : StepsMove access
-steps-move settings shared window accesses = moved-same access bearing quiet opened follows exchange (freshWorld settings shared window) accesses (fresh-idle settings)
+steps-move settings shared window accesses = moved-same access actionOf quiet opened follows exchange (freshWorld settings shared window) accesses (fresh-idle settings)
 
 -- the moved list holds every entry of the list once
-pub every-entry-once : (w : World) (accesses : List Access) → List·Permᴰ (moved (roles bearing (run access w accesses .entries))) (run access w accesses .entries)
-every-entry-once w accesses = moved-perm bearing (run access w accesses .entries)
+pub every-entry-once : (w : World) (accesses : List Access) → List·Permᴰ (moved (roles actionOf (run access w accesses .entries))) (run access w accesses .entries)
+every-entry-once w accesses = moved-perm actionOf (run access w accesses .entries)
 
 -- every done step has its start
 pub every-step-owned : (settings : Settings) (shared window : List ℕ) (accesses : List Access) →
-    Owned bearing (roles bearing (run access (freshWorld settings shared window) accesses .entries))
-every-step-owned settings shared window accesses = owned access bearing quiet opened follows step-open (freshWorld settings shared window) accesses 0 [] (fresh-idle settings)
+    Owned actionOf (roles actionOf (run access (freshWorld settings shared window) accesses .entries))
+every-step-owned settings shared window accesses = owned access actionOf quiet opened follows step-open (freshWorld settings shared window) accesses 0 [] (fresh-idle settings)

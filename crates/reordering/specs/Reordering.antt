@@ -9,7 +9,7 @@ use Rattle.model.specs.Lanes.{laneBytes}
 use Rattle.model.specs.State.{Settings, Transfer, World, freshWorld}
 use Rattle.model.specs.Runs.{Outcome, Entry, run}
 use Rattle.model.specs.Accesses.{Access, Answer, Kind, reset, sharedRead, sharedWrite, windowRead, windowWrite, take, put, claim, release, mailboxWrite, mailboxRead, interruptRead, interruptWrite, line, start, step, externalPin, unknown, kindOf, transferOf}
-use Rattle.reordering.specs.Roles.{Bearing, resets, starts, steps, none, roles, moved, Undisturbed}
+use Rattle.reordering.specs.Roles.{TransferAction, resets, starts, steps, none, roles, moved, Undisturbed}
 
 -- WHAT AN ENTRY TOUCHES
 
@@ -67,7 +67,7 @@ inDestination t (pciByte i) = eqb (t .direction) 1 && inRange t (pciByte i)
 
 -- "No access there is a done reset or a start (even a refused one), reads or writes an interrupt register, asks for a line level, writes a byte
 -- of the transfer's source or destination range, or reads a byte of its destination." A done reset cannot stand there: no later step would be
--- one of the transfer's.
+-- one of the transfer's. Nor can another transfer's step: its start would stand there too, or this transfer's would have been refused with 6.
 abbrev pub disturbs : Transfer → Touch → Bool
 disturbs t resetting = true
 disturbs t starting = true
@@ -82,42 +82,43 @@ quiet t e = every (λ touch. not (disturbs t touch)) (touches e)
 
 -- TRANSFERS IN A LIST
 
-abbrev pub doneBearing : Kind → Access → (v : ℕ) → Bearing Transfer
-doneBearing reset q v = resets
-doneBearing sharedRead q v = none
-doneBearing sharedWrite q v = none
-doneBearing windowRead q v = none
-doneBearing windowWrite q v = none
-doneBearing take q v = none
-doneBearing put q v = none
-doneBearing claim q v = none
-doneBearing release q v = none
-doneBearing mailboxWrite q v = none
-doneBearing mailboxRead q v = none
-doneBearing interruptRead q v = none
-doneBearing interruptWrite q v = none
-doneBearing line q v = none
-doneBearing start q v = starts (transferOf (q .s) (q .a) (q .b) (q .c))
-doneBearing step q v = steps (eqb v 2 || eqb v 3 || eqb v 4)
-doneBearing externalPin q v = none
-doneBearing unknown q v = none
+abbrev pub doneAction : Kind → Access → (v : ℕ) → TransferAction Transfer
+doneAction reset q v = resets
+doneAction sharedRead q v = none
+doneAction sharedWrite q v = none
+doneAction windowRead q v = none
+doneAction windowWrite q v = none
+doneAction take q v = none
+doneAction put q v = none
+doneAction claim q v = none
+doneAction release q v = none
+doneAction mailboxWrite q v = none
+doneAction mailboxRead q v = none
+doneAction interruptRead q v = none
+doneAction interruptWrite q v = none
+doneAction line q v = none
+doneAction start q v = starts (transferOf (q .s) (q .a) (q .b) (q .c))
+doneAction step q v = steps (eqb v 2 || eqb v 3 || eqb v 4)
+doneAction externalPin q v = none
+doneAction unknown q v = none
 
 -- "Of the starts done since the last done reset, a done step belongs to the earliest that has no step yet with V 2, 3 or 4."
-abbrev pub bearing : Entry Access Answer → Bearing Transfer
-bearing e = if eqb (e .answer .number) 0 then doneBearing (kindOf (e .access .kind)) (e .access) (e .answer .v) else none
+abbrev pub actionOf : Entry Access Answer → TransferAction Transfer
+actionOf e = if eqb (e .answer .number) 0 then doneAction (kindOf (e .access .kind)) (e .access) (e .answer .v) else none
 
 -- THE CLAIM
 
 -- "Take any list of accesses of any kind and side, refused ones included, from a fresh card and any two memories", of any machine. If between its
--- start and its last done step no transfer is disturbed, the list with each transfer's done steps moved to its start gets for every access the
--- number, V and X that it had, and leaves the same record and the same bytes.
-abbrev pub StepsMoveIf : (quiet : Transfer → Entry Access Answer → Bool) → (machine : World → Access → Outcome Answer World) → Type 0
-StepsMoveIf quiet machine =
+-- start and its last done step every access is `harmless` to the transfer, the list with each transfer's done steps moved to its start gets for every access the
+-- number, V and X that it had, and leaves the same record and the same bytes. "The records are compared whole, FIFOs by entries held, an idle
+-- transfer as idle."
+abbrev pub StepsMoveIf : (harmless : Transfer → Entry Access Answer → Bool) → (machine : World → Access → Outcome Answer World) → Type 0
+StepsMoveIf harmless machine =
     (settings : Settings) (shared window : List ℕ) (accesses : List Access) →
     let w = freshWorld settings shared window in
     let ran = run machine w accesses in
-    let list = roles bearing (ran .entries) in
-    Undisturbed quiet list →
+    let list = roles actionOf (ran .entries) in
+    Undisturbed harmless list →
     run machine w (map (λ e. e .access) (moved list)) ≡ record { entries = moved list; world = ran .world }
 
 abbrev pub StepsMove : (machine : World → Access → Outcome Answer World) → Type 0

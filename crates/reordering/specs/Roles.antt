@@ -8,14 +8,14 @@ use lib.Dec.{eqb}
 use Rattle.model.specs.Choice.{if_then_else_}
 
 -- What an answered access is to the transfers; T is what a start says of its own. `steps true` is a transfer's last: V is 2, 3 or 4.
-pub data Bearing (T : Type 0) : Type 0 where
-  resets : Bearing T
-  starts : T → Bearing T
-  steps : (last : Bool) → Bearing T
-  none : Bearing T
+pub data TransferAction (T : Type 0) : Type 0 where
+  resets : TransferAction T
+  starts : T → TransferAction T
+  steps : (last : Bool) → TransferAction T
+  none : TransferAction T
 
 -- The open transfers, oldest first: "the starts done since the last done reset" that have "no step yet with V 2, 3 or 4". A new one is listed as `new t`.
-abbrev pub openAfter : {T B : Type 0} → (new : T → B) → Bearing T → List B → List B
+abbrev pub openAfter : {T B : Type 0} → (new : T → B) → TransferAction T → List B → List B
 openAfter new resets opened = []
 openAfter new (starts t) opened = opened ++ (new t ∷ [])
 openAfter new (steps true) opened = tail opened
@@ -23,7 +23,7 @@ openAfter new (steps false) opened = opened
 openAfter new none opened = opened
 
 -- the number of the next transfer
-abbrev pub countAfter : {T : Type 0} → ℕ → Bearing T → ℕ
+abbrev pub countAfter : {T : Type 0} → ℕ → TransferAction T → ℕ
 countAfter n resets = n
 countAfter n (starts t) = suc n
 countAfter n (steps last) = n
@@ -42,7 +42,7 @@ module _ {T E : Type 0} where
   entryOf (neither e) = e
 
   -- "A done step belongs to the earliest": to the oldest open transfer.
-  abbrev pub roleOf : (n : ℕ) → (opened : List (ℕ × T)) → Bearing T → E → Role T E
+  abbrev pub roleOf : (n : ℕ) → (opened : List (ℕ × T)) → TransferAction T → E → Role T E
   roleOf n opened resets e = neither e
   roleOf n opened (starts t) e = startOf n t e
   roleOf n [] (steps last) e = neither e
@@ -50,14 +50,14 @@ module _ {T E : Type 0} where
   roleOf n opened none e = neither e
 
   -- the entries in their roles, where these transfers are open and the next is number `n`
-  abbrev pub rolesFrom : (bearing : E → Bearing T) → (n : ℕ) → (opened : List (ℕ × T)) → List E → List (Role T E)
-  rolesFrom bearing n opened [] = []
-  rolesFrom bearing n opened (e ∷ es) =
-      roleOf n opened (bearing e) e ∷ rolesFrom bearing (countAfter n (bearing e)) (openAfter (λ t. (n, t)) (bearing e) opened) es
+  abbrev pub rolesFrom : (actionOf : E → TransferAction T) → (n : ℕ) → (opened : List (ℕ × T)) → List E → List (Role T E)
+  rolesFrom actionOf n opened [] = []
+  rolesFrom actionOf n opened (e ∷ es) =
+      roleOf n opened (actionOf e) e ∷ rolesFrom actionOf (countAfter n (actionOf e)) (openAfter (λ t. (n, t)) (actionOf e) opened) es
 
   -- at the beginning of a list no transfer is open
-  abbrev pub roles : (bearing : E → Bearing T) → List E → List (Role T E)
-  roles bearing es = rolesFrom bearing 0 [] es
+  abbrev pub roles : (actionOf : E → TransferAction T) → List E → List (Role T E)
+  roles actionOf es = rolesFrom actionOf 0 [] es
 
   -- the done steps of transfer k, in their order
   abbrev pub stepsOf : (k : ℕ) → List (Role T E) → List E
@@ -82,8 +82,8 @@ module _ {T E : Type 0} where
       stepsOf k behind ≢ [] → x ≢ stepOf k (entryOf x) → quiet t (entryOf x) ≡ true
 
   -- an entry that belongs to no transfer is no done step: every done step has its start
-  abbrev pub Owned : (bearing : E → Bearing T) → List (Role T E) → Type 0
-  Owned bearing [] = Unit {0}
-  Owned bearing (startOf k t e ∷ l) = Owned bearing l
-  Owned bearing (stepOf k e ∷ l) = Owned bearing l
-  Owned bearing (neither e ∷ l) = ((last : Bool) → bearing e ≢ steps last) × Owned bearing l
+  abbrev pub Owned : (actionOf : E → TransferAction T) → List (Role T E) → Type 0
+  Owned actionOf [] = Unit {0}
+  Owned actionOf (startOf k t e ∷ l) = Owned actionOf l
+  Owned actionOf (stepOf k e ∷ l) = Owned actionOf l
+  Owned actionOf (neither e ∷ l) = ((last : Bool) → actionOf e ≢ steps last) × Owned actionOf l

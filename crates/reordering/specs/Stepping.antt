@@ -1,4 +1,4 @@
--- What a step looks at and what it changes; and the first law of rule 3: an access leaves open the transfer that its bearing says.
+-- What a step looks at and what it changes; and the first law of rule 3: an access leaves open the transfer that its action says.
 use mathlib.Core.Path.{_≡_, refl, sym, ap, _∙_}
 use mathlib.Core.Logic.{_≢_}
 use mathlib.Core.Bool.{Bool, true, false, not, _&&_, _||_}
@@ -21,8 +21,8 @@ use Rattle.model.specs.CheckLaws.{Pass}
 use Rattle.model.specs.LaneLaws.{Covers, covers-from, covers-below}
 use Rattle.model.specs.Refusals.{checks-passed}
 use Rattle.model.specs.Soundness.{sound-transfer}
-use Rattle.reordering.specs.Roles.{Bearing, resets, starts, steps, none, openAfter}
-use Rattle.reordering.specs.Reordering.{sharedByte, pciByte, inRange, inSource, inDestination, quiet, doneBearing, bearing}
+use Rattle.reordering.specs.Roles.{TransferAction, resets, starts, steps, none, openAfter}
+use Rattle.reordering.specs.Reordering.{sharedByte, pciByte, inRange, inSource, inDestination, quiet, doneAction, actionOf}
 use Rattle.reordering.specs.Moving.{Follows}
 use Rattle.reordering.specs.Commute.{Stepwise, Misses, Hits}
 use Rattle.reordering.specs.Kinds.{plain-dma}
@@ -153,8 +153,8 @@ pub idle-is : (d : Dma) → isIdle d ≡ true → d ≡ idle
 idle-is idle h = refl
 idle-is (running t i) h = no-both h
 
--- what an answered access finds and leaves of the transfer, by its bearing
-abbrev pub After : Bearing Transfer → (d d′ : Dma) → Type 0
+-- what an answered access finds and leaves of the transfer, by its action
+abbrev pub After : TransferAction Transfer → (d d′ : Dma) → Type 0
 After resets d d′ = d′ ≡ idle
 After (starts t) d d′ = (d ≡ idle) × (d′ ≡ running t 0)
 After (steps last) d d′ = (t : Transfer) × (i : ℕ) × (d ≡ running t i) × (d′ ≡ (if last then idle else running t (suc i)))
@@ -172,7 +172,7 @@ after-step w (running t i) h =
     (λ y. if-case Q (eqb (suc i) (t .size / 4)) _ _ (λ _. (t, i, refl, refl)) (λ _. (t, i, refl, refl))))
 
 after-kind : (k : Kind) (w : World) (q : Access) → Pass (rowOf k w q .checks) →
-    After (doneBearing k q (rowOf k w q .effect .v)) (w .card .dma) (applyAll (rowOf k w q .effect .changes) (w .card) .dma)
+    After (doneAction k q (rowOf k w q .effect .v)) (w .card .dma) (applyAll (rowOf k w q .effect .changes) (w .card) .dma)
 after-kind reset w q p = refl
 after-kind sharedRead w q p = refl
 after-kind sharedWrite w q p = refl
@@ -192,19 +192,19 @@ after-kind step w q p = after-step w (w .card .dma) (p .1 .0)
 after-kind externalPin w q p = refl
 after-kind unknown w q p = refl
 
-pub dma-after : (w : World) (q : Access) → After (bearing (entryAt access w q)) (w .card .dma) (access w q .world .card .dma)
+pub dma-after : (w : World) (q : Access) → After (actionOf (entryAt access w q)) (w .card .dma) (access w q .world .card .dma)
 unfolding access
 dma-after w q = by (refusal (checks w q)) refl
   where
     by : (n : ℕ) → refusal (checks w q) ≡ n →
-        After (bearing (record { access = q; answer = settled n (rowOf (kindOf (q .kind)) w q .effect) w .answer })) (w .card .dma) (settled n (rowOf (kindOf (q .kind)) w q .effect) w .world .card .dma)
+        After (actionOf (record { access = q; answer = settled n (rowOf (kindOf (q .kind)) w q .effect) w .answer })) (w .card .dma) (settled n (rowOf (kindOf (q .kind)) w q .effect) w .world .card .dma)
     by zero h = after-kind (kindOf (q .kind)) w q (checks-passed w q h .1 .1)
     by (suc n) h = rw (eqb·suc-zero n) refl
 
-pub follows : Follows access bearing quiet opened
-follows w q = by (bearing (entryAt access w q)) (w .card .dma) (access w q .world .card .dma) (dma-after w q)
+pub follows : Follows access actionOf quiet opened
+follows w q = by (actionOf (entryAt access w q)) (w .card .dma) (access w q .world .card .dma) (dma-after w q)
   where
-    by : (κ : Bearing Transfer) (d d′ : Dma) → After κ d d′ → openIn d′ ≡ openAfter (λ u. u) κ (openIn d)
+    by : (κ : TransferAction Transfer) (d d′ : Dma) → After κ d d′ → openIn d′ ≡ openAfter (λ u. u) κ (openIn d)
     by resets d d′ h = rw h
     by (starts t) d d′ h = rw (h .0, h .1)
     by (steps true) d d′ h = rw (h .2, h .3)
@@ -212,7 +212,7 @@ follows w q = by (bearing (entryAt access w q)) (w .card .dma) (access w q .worl
     by none d d′ h = rw h
 
 -- only a running transfer steps
-pub step-open : (w : World) (q : Access) (b : Bool) → bearing (entryAt access w q) ≡ steps b → opened w ≢ []
+pub step-open : (w : World) (q : Access) (b : Bool) → actionOf (entryAt access w q) ≡ steps b → opened w ≢ []
 step-open w q b h e =
     let a : After (steps b) (w .card .dma) (access w q .world .card .dma) = rw h at (dma-after w q) in
     let r : openIn (w .card .dma) ≡ a .0 ∷ [] = ap openIn (a .2) in

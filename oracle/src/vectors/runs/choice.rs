@@ -1,51 +1,18 @@
 //! Random accesses, steered by the state that they meet.
 
 use crate::access::{kind, Access};
-use crate::card::Side;
 use crate::refusal::PUT_BY;
 use crate::transfer::{Running, SHARED_LENGTH};
 
 use super::builder::{Builder, HOST, LOCAL};
 
-/// How often a list turns to each part of the card.
-#[derive(Clone, Copy)]
-pub struct Weights {
-    pub shared: u32,
-    pub window: u32,
-    pub fifos: u32,
-    pub flags: u32,
-    pub mailboxes: u32,
-    pub interrupts: u32,
-    pub transfers: u32,
-    pub resets: u32,
-}
-
-/// A little of everything.
-pub const EVEN: Weights = Weights {
-    shared: 4,
-    window: 4,
-    fifos: 5,
-    flags: 3,
-    mailboxes: 4,
-    interrupts: 6,
-    transfers: 9,
-    resets: 1,
-};
+/// How often a list turns to each part of the card, in the order of `random`.
+const WEIGHTS: [u32; 8] = [4, 4, 5, 3, 4, 6, 9, 1];
 
 impl Builder<'_> {
     /// One random access.
-    pub fn random(&mut self, weights: &Weights) {
-        let chosen = self.rng.weighted(&[
-            weights.shared,
-            weights.window,
-            weights.fifos,
-            weights.flags,
-            weights.mailboxes,
-            weights.interrupts,
-            weights.transfers,
-            weights.resets,
-        ]);
-        let access = match chosen {
+    pub fn random(&mut self) {
+        let access = match self.rng.weighted(&WEIGHTS) {
             0 => self.shared_access(),
             1 => self.window_access(),
             2 => self.fifo_access(),
@@ -131,8 +98,7 @@ impl Builder<'_> {
 
     fn fifo_access(&mut self) -> Access {
         let fifo = self.rng.below(4) as u8;
-        let putter = PUT_BY[usize::from(fifo)];
-        let putter = if putter == Side::Host { HOST } else { LOCAL };
+        let putter = PUT_BY[usize::from(fifo)] as u8;
         if self.rng.one_in(3) {
             Access::new(kind::TAKE, 1 - putter, fifo, 0, 0, 0)
         } else {

@@ -17,6 +17,9 @@ use builder::Builder;
 use coverage::Coverage;
 use plans::{First, Plan};
 
+/// A list has at least so many accesses.
+const LENGTH: usize = 50;
+
 /// How far from a mark of a memory its first bytes are random.
 const REACH: u32 = 20;
 
@@ -47,7 +50,6 @@ pub fn runs() -> Vec<Run> {
     let missing = coverage.missing();
     assert!(missing.is_empty(), "not reached: {missing:#?}");
     let count = |holds: fn(&Run) -> bool| runs.iter().filter(|run| holds(run)).count();
-    assert_eq!(count(|run| run.entries.len() < 40), 0);
     assert!(count(|run| run.first.card.settings != Settings::REPLAY) >= runs.len() / 2);
     assert!(count(|run| run.settings.is_none()) >= 4);
     runs
@@ -61,7 +63,7 @@ fn build(plan: Plan, seed: u64, share: Option<(usize, usize)>, coverage: &mut Co
         First::Record(card) => (None, card.settings),
     };
     let marks = [0, given.lo, given.hi, given.length];
-    let shared = memory(plan.shared_length, &[0, 16_384], &mut rng);
+    let shared = memory(plan.shared_length, &[0, plan.shared_length], &mut rng);
     let window = memory(plan.window_length, &marks, &mut rng);
     let first = match plan.first {
         First::Fresh(settings) => World::fresh(settings, shared, window),
@@ -78,14 +80,14 @@ fn build(plan: Plan, seed: u64, share: Option<(usize, usize)>, coverage: &mut Co
     }
     let mut builder = Builder::new(first.clone(), rng, coverage);
     (plan.script)(&mut builder);
-    while builder.entries.len() < plan.length || !faults.is_empty() {
-        let room = plan.length.saturating_sub(builder.entries.len());
+    while builder.entries.len() < LENGTH || !faults.is_empty() {
+        let room = LENGTH.saturating_sub(builder.entries.len());
         let chosen = builder.rng.below(room.max(faults.len()).max(1) as u32) as usize;
         if chosen < faults.len() {
             let fault = faults.remove(chosen);
             builder.access(fault);
         } else {
-            builder.random(&plan.weights);
+            builder.random();
         }
     }
     Run {
@@ -155,7 +157,8 @@ use Rattle.model.specs.Lanes.{readDword, writeDword}
 use Rattle.model.specs.State.{idle, running, World, sound, freshCard, freshWorld}
 use Rattle.model.specs.Runs.{Entry}
 use Rattle.model.specs.Accesses.{Access, Answer, access}
-use Rattle.cases.specs.Vectors.{q, r, _gives_, settings, flags, mail, interrupts, transfer, card, world, bytes, RunAgrees}
+use Rattle.model.specs.Bench.{q, r, _gives_}
+use Rattle.cases.specs.Vectors.{settings, flags, mail, interrupts, transfer, card, world, bytes, RunAgrees}
 ";
 
 const TAIL: &str = "\

@@ -8,7 +8,6 @@ use crate::settings::Settings;
 use crate::transfer::{Running, Transfer, SHARED_LENGTH};
 
 use super::builder::Builder;
-use super::choice::{Weights, EVEN};
 use super::scripts::{self, memories, registers, transfers};
 
 /// What a list starts from.
@@ -22,9 +21,6 @@ pub struct Plan {
     pub shared_length: u32,
     pub window_length: u32,
     pub script: fn(&mut Builder),
-    pub weights: Weights,
-    /// The list has at least so many accesses.
-    pub length: usize,
     /// Whether faults are spread over the list.
     pub faults: bool,
 }
@@ -45,8 +41,6 @@ const NO_WINDOW: Settings = Settings::new(0x1000_0000, 0, 0, 0);
 /// hi is above the length.
 const FAILING: Settings = Settings::new(0x1000_0000, 64, 0, 68);
 
-const LENGTH: usize = 50;
-
 pub fn plans() -> Vec<Plan> {
     vec![
         plan(Settings::REPLAY, memories::borders),
@@ -54,7 +48,7 @@ pub fn plans() -> Vec<Plan> {
         without_faults(plan(MIDDLE, registers::inbound_post)),
         without_faults(plan(SMALL, registers::inbound_free)),
         record(found(), registers::found),
-        record(every_event(), registers::clearing),
+        without_faults(record(every_event(), registers::clearing)),
         plan(Settings::REPLAY, registers::flags),
         plan(NO_ABORT, registers::mailboxes),
         plan(MIDDLE, registers::interrupts),
@@ -66,7 +60,7 @@ pub fn plans() -> Vec<Plan> {
         }),
         plan(TOP, transfers::window_borders),
         plan(BASE_ZERO, transfers::window_borders),
-        plan(NO_ABORT, scripts::nothing),
+        plan(NO_ABORT, transfers::start_checks),
         plan(TOP_MIDDLE, transfers::starts),
         plan(SMALL, memories::lanes),
         plan(NO_WINDOW, scripts::no_window),
@@ -91,8 +85,6 @@ fn plan(settings: Settings, script: fn(&mut Builder)) -> Plan {
         shared_length: SHARED_LENGTH,
         window_length: settings.length,
         script,
-        weights: EVEN,
-        length: LENGTH,
         faults: true,
     }
 }

@@ -101,6 +101,21 @@ pub enum Event {
     Bit(u32),
 }
 
+/// What a reset finds not clear.
+#[derive(Clone, Copy, Debug, PartialEq, Eq, PartialOrd, Ord)]
+pub enum Cleared {
+    Fifo(usize),
+    HostFlag,
+    LocalFlag,
+    Hldata,
+    Lhdata,
+    HostEnables,
+    HostStatus,
+    LocalEnables,
+    LocalStatus,
+    Transfer,
+}
+
 /// What a start meets; the bounds are met exactly.
 #[derive(Clone, Copy, Debug, PartialEq, Eq, PartialOrd, Ord)]
 pub enum Start {
@@ -167,6 +182,7 @@ pub enum Fact {
         side: u8,
         what: Flag,
     },
+    Reset(Cleared),
     HostMailboxRead(Bay),
     /// The last mailbox write was by this side.
     LocalMailboxRead {
@@ -177,6 +193,10 @@ pub enum Fact {
         side: u8,
         raises: bool,
         ignored: bool,
+    },
+    /// The other side's register was read after a write that set every bit but 24.
+    OtherBitsRaiseNothing {
+        side: u8,
     },
     /// A register was read after this was raised, and shows it if it was raised there.
     EventRead {
@@ -223,7 +243,6 @@ pub enum Fact {
     },
     /// A step by the side that did not start.
     StepByOtherSide,
-    ResetWhileRunning,
     /// A dword was written while its transfer ran, and moved afterwards.
     MovedAsItStoodThen {
         direction: u8,

@@ -1,9 +1,9 @@
 //! What the FIFOs, flags, mailboxes and interrupt registers meet.
 
 use crate::access::kind;
-use crate::card::{FIFOS, FIFO_DEPTH};
+use crate::card::{Card, Mailboxes, FIFOS, FIFO_DEPTH};
 
-use super::fact::{Bay, Event, Fact, Fifo, Flag};
+use super::fact::{Bay, Cleared, Event, Fact, Fifo, Flag};
 use super::required::EVENTS;
 use super::Observed;
 
@@ -13,6 +13,8 @@ pub struct History {
     was_full: [bool; FIFOS],
     written_before_reset: bool,
     mailbox_written_by: Option<u8>,
+    /// The last access was a mailbox write by this side with every bit set but 24.
+    other_bits_written_by: Option<u8>,
     /// What was last raised, and at which positions of HINT and LINT.
     raised: Option<(Event, [u32; 2])>,
 }
@@ -21,6 +23,9 @@ impl History {
     pub fn observe(&mut self, observed: &Observed, facts: &mut Vec<Fact>) {
         self.fifos(observed, facts);
         if observed.answer.number == 0 {
+            if observed.access.kind == kind::RESET {
+                reset(&observed.before.card, facts);
+            }
             flags(observed, facts);
             self.mailboxes(observed, facts);
             self.interrupts(observed, facts);
@@ -56,13 +61,21 @@ impl History {
         let Observed { access, .. } = observed;
         let mailboxes = observed.before.card.mailboxes;
         let side = access.side;
+        let other_bits_written_by = self.other_bits_written_by.take();
         match (access.kind, side) {
+            (kind::INTERRUPT_READ, _) if other_bits_written_by == Some(1 - side) => {
+                let side = 1 - side;
+                facts.push(Fact::OtherBitsRaiseNothing { side });
+            }
             (kind::RESET, _) => {
                 self.written_before_reset |= mailboxes.written;
                 self.mailbox_written_by = None;
             }
             (kind::MAILBOX_WRITE, _) => {
                 self.mailbox_written_by = Some(side);
+                if access.b | 0xFFFF == 0xFEFF_FFFF {
+                    self.other_bits_written_by = Some(side);
+                }
                 facts.push(Fact::MailboxWrite {
                     side,
                     raises: access.b >> 24 & 1 == 1,
@@ -143,6 +156,32 @@ impl History {
             }
         }
     }
+}
+
+fn reset(before: &Card, facts: &mut Vec<Fact>) {
+    let Mailboxes { hldata, lhdata, .. } = before.mailboxes;
+    let found = [
+        (Cleared::HostFlag, before.pairs.iter().any(|pair| pair.host)),
+        (
+            Cleared::LocalFlag,
+            before.pairs.iter().any(|pair| pair.local),
+        ),
+        (Cleared::Hldata, hldata != 0),
+        (Cleared::Lhdata, lhdata != 0),
+        (Cleared::HostEnables, before.hint.enables != 0),
+        (Cleared::HostStatus, before.hint.status != 0),
+        (Cleared::LocalEnables, before.lint.enables != 0),
+        (Cleared::LocalStatus, before.lint.status != 0),
+        (Cleared::Transfer, before.running.is_some()),
+    ];
+    let fifos = (0..).zip(&before.fifos);
+    let fifos = fifos.map(|(fifo, held)| (Cleared::Fifo(fifo), !held.is_empty()));
+    let found = found.into_iter().chain(fifos);
+    facts.extend(
+        found
+            .filter(|(_, set)| *set)
+            .map(|(what, _)| Fact::Reset(what)),
+    );
 }
 
 fn flags(observed: &Observed, facts: &mut Vec<Fact>) {

@@ -5,7 +5,7 @@ use crate::card::FIFOS;
 use crate::interrupts::event;
 use crate::refusal::LAST_KIND;
 
-use super::fact::{Bay, Event, Fact, Field, Fifo, Flag, Place, Start, StepPlace};
+use super::fact::{Bay, Cleared, Event, Fact, Field, Fifo, Flag, Place, Start, StepPlace};
 
 /// Every event position that exists.
 pub const EVENTS: [u32; 9] = [
@@ -135,7 +135,21 @@ fn registers(facts: &mut Vec<Fact>) {
             });
         }
         facts.push(Fact::LocalMailboxRead { after: side });
+        facts.push(Fact::OtherBitsRaiseNothing { side });
     }
+    facts.extend((0..FIFOS).map(|fifo| Fact::Reset(Cleared::Fifo(fifo))));
+    let cleared = [
+        Cleared::HostFlag,
+        Cleared::LocalFlag,
+        Cleared::Hldata,
+        Cleared::Lhdata,
+        Cleared::HostEnables,
+        Cleared::HostStatus,
+        Cleared::LocalEnables,
+        Cleared::LocalStatus,
+        Cleared::Transfer,
+    ];
+    facts.extend(cleared.map(Fact::Reset));
     let bays = [0, 1, 22, 23, 24, 255].map(Bay::Written);
     facts.extend(bays.map(Fact::HostMailboxRead));
     facts.push(Fact::HostMailboxRead(Bay::Unwritten));
@@ -215,5 +229,4 @@ fn transfers(facts: &mut Vec<Fact>) {
         facts.push(Fact::StepAt { place, v });
     }
     facts.push(Fact::StepByOtherSide);
-    facts.push(Fact::ResetWhileRunning);
 }

@@ -27,7 +27,6 @@ impl History {
                     self.source_written.clear();
                 }
             }
-            (kind::RESET, 0, Some(_)) => facts.push(Fact::ResetWhileRunning),
             (kind::STEP, 0, Some(running)) => self.step(observed, running, facts),
             (kind::SHARED_WRITE | kind::WINDOW_WRITE, 0, Some(running)) => {
                 self.source_written.extend(source_dword(access, &running));

@@ -38,6 +38,3 @@ pub fn all_refused(b: &mut Builder) {
         b.access(fault);
     }
 }
-
-/// Nothing planned.
-pub fn nothing(_: &mut Builder) {}

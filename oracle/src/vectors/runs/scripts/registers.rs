@@ -105,11 +105,14 @@ pub fn flags(b: &mut Builder) {
 pub fn mailboxes(b: &mut Builder) {
     b.plain(kind::MAILBOX_READ, HOST);
     b.plain(kind::MAILBOX_READ, LOCAL);
-    b.value(kind::MAILBOX_WRITE, HOST, 0x0000_0017);
+    b.value(kind::MAILBOX_WRITE, HOST, 0xFEFF_0017);
+    b.plain(kind::INTERRUPT_READ, LOCAL);
     b.plain(kind::MAILBOX_READ, HOST);
     b.plain(kind::MAILBOX_READ, LOCAL);
-    b.registers();
-    for value in [0, 1, 22, 0xFEFF_0017, 24, 255, 0x0117, 0x0118, 0x0100_FF00] {
+    b.value(kind::MAILBOX_WRITE, LOCAL, 0xFEFF_0017);
+    b.plain(kind::INTERRUPT_READ, HOST);
+    b.plain(kind::MAILBOX_READ, HOST);
+    for value in [0, 1, 22, 24, 255, 0x0117, 0x0118, 0x0100_FF00] {
         b.value(kind::MAILBOX_WRITE, LOCAL, value);
         b.plain(kind::MAILBOX_READ, HOST);
     }
@@ -118,7 +121,7 @@ pub fn mailboxes(b: &mut Builder) {
     b.value(kind::MAILBOX_WRITE, HOST, 0xFFFF_FFFF);
     b.registers();
     b.value(kind::MAILBOX_WRITE, LOCAL, 0xFFFF_0016);
-    b.value(kind::MAILBOX_WRITE, HOST, 0x0200_1234);
+    b.value(kind::MAILBOX_WRITE, HOST, 0x0000_1234);
     b.value(kind::MAILBOX_WRITE, HOST, 0x0100_4321);
     b.plain(kind::MAILBOX_READ, LOCAL);
     b.plain(kind::RESET, LOCAL);
@@ -164,15 +167,15 @@ pub fn interrupts(b: &mut Builder) {
     b.lines();
 }
 
-/// Every stored event at once, then cleared one by one.
+/// Every stored event at once, then cleared one by one; then a reset of the full card.
 pub fn clearing(b: &mut Builder) {
     b.lines();
     for fifo in 0..4 {
         let putter = PUT_BY[usize::from(fifo)] as u8;
         b.put(putter, fifo, 1);
     }
-    b.value(kind::MAILBOX_WRITE, HOST, 1 << 24);
-    b.value(kind::MAILBOX_WRITE, LOCAL, 1 << 24);
+    b.value(kind::MAILBOX_WRITE, HOST, 0x0100_1234);
+    b.value(kind::MAILBOX_WRITE, LOCAL, 0x0100_4305);
     b.plain(kind::EXTERNAL_PIN, LOCAL);
     b.registers();
     for bit in [
@@ -188,8 +191,19 @@ pub fn clearing(b: &mut Builder) {
     ] {
         b.value(kind::INTERRUPT_WRITE, HOST, 0x0200_0000 | bit);
         b.value(kind::INTERRUPT_WRITE, LOCAL, 0x0100_0000 | bit);
-        b.plain(kind::LINE, HOST);
-        b.plain(kind::LINE, LOCAL);
+        b.registers();
     }
+    b.lines();
+    b.select(kind::CLAIM, HOST, 0);
+    b.select(kind::CLAIM, LOCAL, 3);
+    b.plain(kind::EXTERNAL_PIN, LOCAL);
+    b.put(HOST, 2, 5);
+    b.plain(kind::RESET, HOST);
     b.registers();
+    for fifo in 0..4 {
+        let taker = 1 - PUT_BY[usize::from(fifo)] as u8;
+        b.select(kind::TAKE, taker, fifo);
+    }
+    b.select(kind::CLAIM, LOCAL, 0);
+    b.select(kind::CLAIM, HOST, 3);
 }

@@ -92,3 +92,22 @@ pub fn starts(b: &mut Builder) {
         b.step_to_end();
     }
 }
+
+/// Sizes and ranges that a start refuses, and such that it just takes.
+pub fn start_checks(b: &mut Builder) {
+    let base = b.settings().base;
+    for size in [0, 1, 2, 3, 5, 16_385, 16_388, u32::MAX - 3, u32::MAX] {
+        b.start(HOST, (size & 1) as u8, 0, base, size);
+    }
+    for (direction, shared, pci, size) in [
+        (0, 16_380, base, 8),
+        (1, 4, base, 16_384),
+        (0, 0, u32::MAX - 3, 8),
+        (1, 1, base, 8),
+        (0, 0, base + 2, 8),
+        (0, 16_376, base + 120, 8),
+    ] {
+        b.start(LOCAL, direction, shared, pci, size);
+    }
+    b.step_to_end();
+}

@@ -1,0 +1,74 @@
+// The words of an access: what is asked, what is answered, and the numbers of the refusals.
+ghost use mathlib.Core.Path.{_≡_};
+ghost use mathlib.Core.List.{[], _∷_};
+ghost use Rattle.model.specs.Choice.{if_then_else_};
+ghost use Rattle.model.specs.State.{misplaced};
+ghost use Rattle.model.specs.Accesses.{nonzero};
+
+// "Kind, side and selector S are bytes; A, B, C, V and X are 32-bit numbers."
+pub struct Access {
+    pub kind: u8,
+    pub side: u8,
+    pub s: u8,
+    pub a: u32,
+    pub b: u32,
+    pub c: u32,
+}
+
+// V and X where the access is done; else the number of the refusal.
+pub enum Answer {
+    Done(u32, u32),
+    Refused(u8),
+}
+
+// "Numbers a caller sees": one name for each refusal.
+pub const UNFIT: u8 = 1;
+
+pub const UNKNOWN: u8 = 2;
+
+pub const UNUSED_FIELD: u8 = 3;
+
+pub const SELECTOR: u8 = 4;
+
+pub const WRONG_SIDE: u8 = 5;
+
+pub const BUSY: u8 = 6;
+
+pub const EMPTY_TRANSFER: u8 = 7;
+
+pub const SIZE: u8 = 8;
+
+pub const ADDRESS: u8 = 9;
+
+pub const NOT_RUNNING: u8 = 10;
+// the trace reader's
+pub const SHORT_RECORD: u8 = 20;
+
+pub const WRONG_MARK: u8 = 21;
+
+pub const RECORD_NUMBER: u8 = 22;
+
+pub const ZERO_BYTE: u8 = 23;
+
+// A numbered check before later ones: its number where its cause holds, else what they gave.
+pub fn when(number: u8, cause: bool, later: u8) -> u8
+    ensures { λ r. ⌜ r ≡ (if cause then number else later) ⌝ }
+{
+    if cause { number } else { later }
+}
+
+// Cause 3: one of the fields that a kind does not use is not zero. A caller hands in 0 for each field that the kind uses.
+pub fn nonzero(s: u8, a: u32, b: u32, c: u32) -> bool
+    ensures { λ r. ⌜ r ≡ nonzero (s ∷ a ∷ b ∷ c ∷ []) ⌝ }
+{
+    (s != 0) | ((a != 0) | ((b != 0) | (c != 0)))
+}
+
+// Cause 9: `count` bytes from an address, in a memory whose addresses go from `lo` to below `hi`. The sum is one of 64 bits, and never wraps.
+pub fn misplaced(at: u32, count: u32, lo: u64, hi: u64) -> bool
+    ensures { λ r. ⌜ r ≡ misplaced at count lo hi ⌝ }
+{
+    let from = at as u64;
+    let end = from + count as u64;
+    (from % 4 != 0) | (from < lo) | (hi < end)
+}

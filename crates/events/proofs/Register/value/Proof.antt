@@ -1,0 +1,24 @@
+-- `events::Register::value` meets its contract: 16 bits of status below 16 bits of enables fit 32.
+use native.Mathlib.Omega.{arith}
+use lib.Bits.{or-lt}
+use borrow.Author.Needs.{needs}
+use Rattle.events.proofs.Register.value.Statement.{statement}
+use Rattle.events.proofs.Register.value.Tie as tie
+
+insert-requires : tie.Need-insert-requires
+insert-requires c κs = search needs
+
+mul-result : tie.Need-mul-result
+mul-result c = search needs
+
+add-result : tie.Need-add-result
+add-result c =
+    let p = c .before .before .before .before .pre in
+    let a = c .before .before .before .before .args in
+    record { fits = omega (arith, p .0, c .before .before .insert .ensures, or-lt 16 (a .self .status .0) (a .live .0) (p .1) (p .2)) }
+
+returns : tie.Need-returns
+returns c = search needs
+
+pub value-spec : {M : Type 1} → statement M
+value-spec = tie.close (tie.spec insert-requires mul-result add-result returns)

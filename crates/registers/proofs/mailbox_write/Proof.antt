@@ -1,0 +1,29 @@
+-- `registers::mailbox_write` meets its contract: refused by its checks, or done with the effect of its row.
+use mathlib.Core.Path.{refl, sym, _∙_}
+use Rattle.model.specs.Accesses as model
+use Rattle.card.specs.Did.{refused-did, done-did}
+use borrow.Author.Needs.{needs}
+use Rattle.registers.proofs.mailbox_write.Statement.{statement}
+use Rattle.registers.proofs.mailbox_write.Tie as tie
+
+value-only-requires : tie.Need-value-only-requires
+value-only-requires c κs = search needs
+
+returns : tie.Need-returns
+returns c =
+    let f = c .before in
+    let a = f .before .args in
+    λ m w. refused-did model.mailboxWrite (a .card) (a .q) m w _ (f .value-only .ensures) (c .if1 .taken)
+
+write-mailbox-requires : tie.Need-write-mailbox-requires
+write-mailbox-requires c κs = search needs
+
+returns-2 : tie.Need-returns-2
+returns-2 c =
+    let f = c .before .before in
+    let a = f .before .args in
+    λ m w. done-did model.mailboxWrite (a .card) (a .q) m w _ (sym (f .value-only .ensures) ∙ c .before .if1 .left) refl (c .write-mailbox .ensures)
+
+pub mailbox-write-spec : {M : Type 1} → statement M
+mailbox-write-spec =
+    tie.close (tie.spec value-only-requires returns write-mailbox-requires returns-2)

@@ -1,0 +1,40 @@
+-- `registers::release` meets its contract: refused by its checks, or done with the effect of its row.
+use mathlib.Core.Path.{refl, sym, _∙_}
+use mathlib.Core.List.{[]}
+use borrow.Author.Tests.{ltb-false}
+use Rattle.model.specs.Accesses as model
+use Rattle.access.specs.Words.{accessOf}
+use Rattle.card.specs.Did.{worldOf, refused-did, done-did, row-passed}
+use borrow.Author.Needs.{needs}
+use Rattle.registers.proofs.release.Statement.{statement}
+use Rattle.registers.proofs.release.Tie as tie
+
+pair-only-requires : tie.Need-pair-only-requires
+pair-only-requires c κs = search needs
+
+returns : tie.Need-returns
+returns c =
+    let f = c .before in
+    let a = f .before .args in
+    λ m w. refused-did model.release (a .card) (a .q) m w _ (f .pair-only .ensures) (c .if1 .taken)
+
+cast-release : tie.Need-cast-release
+cast-release c = search needs
+
+release-requires : tie.Need-release-requires
+release-requires c κs =
+    let f = c .before .before in
+    let a = f .before .args in
+    let p = row-passed model.release (worldOf (a .card) [] []) (accessOf (a .q)) _ (f .pair-only .ensures) (c .before .if1 .left) in
+    let l = ltb-false 3 (a .q .s) (p .1 .0) in
+    search needs
+
+returns-2 : tie.Need-returns-2
+returns-2 c =
+    let f = c .before .before .before in
+    let a = f .before .args in
+    λ m w. done-did model.release (a .card) (a .q) m w _ (sym (f .pair-only .ensures) ∙ c .before .before .if1 .left) refl (c .release .ensures)
+
+pub release-spec : {M : Type 1} → statement M
+release-spec =
+    tie.close (tie.spec pair-only-requires returns cast-release release-requires returns-2)

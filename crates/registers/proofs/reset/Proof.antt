@@ -1,0 +1,28 @@
+-- `registers::reset` meets its contract: refused by its checks, or done with the effect of its row.
+use mathlib.Core.Path.{refl, sym, _∙_}
+use Rattle.model.specs.Accesses as model
+use Rattle.card.specs.Did.{refused-did, done-did}
+use borrow.Author.Needs.{needs}
+use Rattle.registers.proofs.reset.Statement.{statement}
+use Rattle.registers.proofs.reset.Tie as tie
+
+no-field-requires : tie.Need-no-field-requires
+no-field-requires c κs = search needs
+
+returns : tie.Need-returns
+returns c =
+    let f = c .before in
+    let a = f .before .args in
+    λ m w. refused-did model.reset (a .card) (a .q) m w _ (f .no-field .ensures) (c .if1 .taken)
+
+reset-requires : tie.Need-reset-requires
+reset-requires c κs = search needs
+
+returns-2 : tie.Need-returns-2
+returns-2 c =
+    let f = c .before .before in
+    let a = f .before .args in
+    λ m w. done-did model.reset (a .card) (a .q) m w _ (sym (f .no-field .ensures) ∙ c .before .if1 .left) refl (c .reset .ensures)
+
+pub reset-spec : {M : Type 1} → statement M
+reset-spec = tie.close (tie.spec no-field-requires returns reset-requires returns-2)

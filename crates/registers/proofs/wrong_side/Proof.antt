@@ -1,0 +1,14 @@
+-- `registers::wrong_side` meets its contract: by the side that may, and then by the caller.
+use Rattle.events.specs.SideNumbers.{side-host, side-local}
+use Rattle.registers.specs.KindSteps.{not-host, not-local}
+use Rattle.registers.proofs.wrong_side.Statement.{statement}
+use Rattle.registers.proofs.wrong_side.Tie as tie
+
+returns : tie.Need-returns
+returns c = rw (side-host _ (c .if1 .taken)) (not-host (c .before .args .side))
+
+returns-2 : tie.Need-returns-2
+returns-2 c = rw (side-local _ (c .if1 .left)) (not-local (c .before .args .side))
+
+pub wrong-side-spec : {M : Type 1} → statement M
+wrong-side-spec = tie.close (tie.spec returns returns-2)

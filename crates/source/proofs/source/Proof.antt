@@ -1,0 +1,101 @@
+-- `source` meets its contract: by cases of the refusal and the direction, the part is the model's and lies in its memory.
+use native.Mathlib.Omega.{arith}
+use native.Mathlib.Nat.{add-sub-cancel-left}
+use denote.Ref.{now}
+use Rattle.model.specs.Accesses.{transferOf}
+use Rattle.card.specs.Bridge.{settingsAs}
+use Rattle.source.specs.SourceLaws.{Cases, cases}
+use borrow.Author.Needs.{needs}
+use Rattle.source.proofs.source.Statement.{statement}
+use Rattle.source.proofs.source.Tie as tie
+
+-- what the refusal says of the request
+known : (c : tie.After-refusal-of) →
+    let a = c .before .before .before .args in
+    Cases (settingsAs (a .settings)) (now (a .shared)) (now (a .window)) (transferOf (a .direction) (a .a) (a .b) (a .c)) (c .refusal-of .result)
+known c =
+    let a = c .before .before .before .args in
+    cases (settingsAs (a .settings)) (now (a .shared)) (now (a .window)) (transferOf (a .direction) (a .a) (a .b) (a .c)) _ (c .refusal-of .ensures)
+
+refusal-of-requires : tie.Need-refusal-of-requires
+refusal-of-requires c κs = search needs
+
+sub-result : tie.Need-sub-result
+sub-result c = search needs
+
+part-result-start : tie.Need-part-result-start
+part-result-start c = search needs
+
+part-result-end : tie.Need-part-result-end
+part-result-end c = search needs
+
+returns : tie.Need-returns
+returns c = rw (known (c .before .before) .refused (c .before .if1 .taken))
+
+sub-from : tie.Need-sub-from
+sub-from c =
+    let pass = c .before .before in
+    omega (arith, known (pass .before) .windowHolds (pass .if1 .left) (c .before .if2 .taken))
+
+cast-from : tie.Need-cast-from
+cast-from c = search needs
+
+add-end : tie.Need-add-end
+add-end c = search needs
+
+sub-result-2 : tie.Need-sub-result-2
+sub-result-2 c = search needs
+
+part-result-start-2 : tie.Need-part-result-start-2
+part-result-start-2 c = search needs
+
+part-result-end-2 : tie.Need-part-result-end-2
+part-result-end-2 c =
+    let pass = c .before .before in
+    omega (arith, known (pass .before) .windowHolds (pass .if1 .left) (c .before .if2 .taken))
+
+returns-2 : tie.Need-returns-2
+returns-2 c =
+    let pass = c .before .before .before in
+    rw (known (pass .before) .inWindow (pass .if1 .left) (c .before .before .if2 .taken), add-sub-cancel-left)
+
+add-end-2 : tie.Need-add-end-2
+add-end-2 c = search needs
+
+sub-result-3 : tie.Need-sub-result-3
+sub-result-3 c = search needs
+
+part-result-start-3 : tie.Need-part-result-start-3
+part-result-start-3 c = search needs
+
+part-result-end-3 : tie.Need-part-result-end-3
+part-result-end-3 c =
+    let pass = c .before in
+    omega (arith, known (pass .before) .sharedHolds (pass .if1 .left))
+
+returns-3 : tie.Need-returns-3
+returns-3 c =
+    let pass = c .before .before in
+    rw (known (pass .before) .inShared (pass .if1 .left) (c .before .if2 .left), add-sub-cancel-left)
+
+pub source-spec : {M : Type 1} → statement M
+source-spec =
+    tie.close
+    (tie.spec
+    refusal-of-requires
+    sub-result
+    part-result-start
+    part-result-end
+    returns
+    sub-from
+    cast-from
+    add-end
+    sub-result-2
+    part-result-start-2
+    part-result-end-2
+    returns-2
+    add-end-2
+    sub-result-3
+    part-result-start-3
+    part-result-end-3
+    returns-3)
