@@ -4,7 +4,7 @@ use Prim.Native.Nat.{ℕ, _<_}
 use native.Mathlib.Omega.{arith}
 use lib.Dec.{lit<}
 use lib.ListN.{length, getD}
-use Rattle.model.specs.Pins.{byteOf}
+use Rattle.model.specs.Lanes.{byteOf}
 use Rattle.lanes.specs.Merge.{listed}
 use Rattle.pins.specs.Carried.{byte-at, carried-halves}
 use borrow.Author.Needs.{needs}

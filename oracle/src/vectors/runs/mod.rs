@@ -1,20 +1,16 @@
 //! The lists of accesses with their answers.
 
-mod builder;
-mod choice;
-mod coverage;
-mod faults;
 mod plans;
-mod scripts;
 
 use crate::access::{Access, Answer};
+use crate::drive::builder::Builder;
+use crate::drive::coverage::{required, Coverage};
+use crate::drive::faults;
 use crate::rng::Rng;
 use crate::settings::Settings;
 use crate::world::World;
 
 use super::text;
-use builder::Builder;
-use coverage::Coverage;
 use plans::{First, Plan};
 
 /// A list has at least so many accesses.
@@ -47,7 +43,7 @@ pub fn runs() -> Vec<Run> {
             build(plan, seed, share, &mut coverage)
         })
         .collect();
-    let missing = coverage.missing();
+    let missing = coverage.missing(required::facts());
     assert!(missing.is_empty(), "not reached: {missing:#?}");
     let count = |holds: fn(&Run) -> bool| runs.iter().filter(|run| holds(run)).count();
     assert!(count(|run| run.first.card.settings != Settings::REPLAY) >= runs.len() / 2);

@@ -3,12 +3,11 @@
 use std::collections::VecDeque;
 
 use crate::card::{fresh, Card, Pair};
+use crate::drive::builder::Builder;
+use crate::drive::scripts::{self, memories, registers, transfers};
 use crate::rng::Rng;
 use crate::settings::Settings;
 use crate::transfer::{Running, Transfer, SHARED_LENGTH};
-
-use super::builder::Builder;
-use super::scripts::{self, memories, registers, transfers};
 
 /// What a list starts from.
 pub enum First {
