@@ -4,4 +4,5 @@ pub mod builder;
 mod choice;
 pub mod coverage;
 pub mod faults;
+pub mod plans;
 pub mod scripts;

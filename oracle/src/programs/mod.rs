@@ -1,5 +1,6 @@
 //! What each test program reads, and what it must write.
 
+mod device;
 mod pins;
 mod trace;
 
@@ -14,7 +15,7 @@ struct Program {
 
 /// Every program's files.
 pub fn files() -> Vec<Stored> {
-    let programs = [pins::program(), trace::program()];
+    let programs = [pins::program(), trace::program(), device::program()];
     programs
         .into_iter()
         .flat_map(|program| {

@@ -1,9 +1,9 @@
 //! The vector files: what this program answers, as antt text that is proved to agree with the
 //! definitions.
 
-mod fresh;
+pub mod fresh;
 mod pins;
-pub mod runs;
+mod runs;
 pub mod sound;
 pub mod source;
 mod text;
