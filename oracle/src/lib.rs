@@ -1,16 +1,21 @@
 //! An independent model of the PCI dual-port memory card, written from document 01 alone.
-//! Its answers are compared with those of the proved definitions.
+//! Its answers are compared with those of the proved definitions and programs.
 
 pub mod access;
 pub mod arbitrary;
 pub mod card;
+mod drive;
 pub mod dword;
 pub mod interrupts;
 pub mod pins;
+mod programs;
 pub mod refusal;
+pub mod replay;
 pub mod rng;
 pub mod settings;
 pub mod source;
+pub mod stored;
+pub mod trace;
 pub mod transfer;
-pub mod vectors;
+mod vectors;
 pub mod world;

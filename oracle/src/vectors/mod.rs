@@ -1,17 +1,22 @@
 //! The vector files: what this program answers, as antt text that is proved to agree with the
 //! definitions.
 
-mod fresh;
+pub mod fresh;
 mod pins;
 mod runs;
-mod sound;
-mod source;
+pub mod sound;
+pub mod source;
 mod text;
 
+use crate::stored::Stored;
+
+/// Where the vector files stand, below `crates/`.
+pub const FOLDER: &str = "cases/specs";
+
 /// A file by its module name, which is also its name without `.antt`.
-pub struct File {
-    pub module: String,
-    pub text: String,
+struct File {
+    module: String,
+    text: String,
 }
 
 impl File {
@@ -22,8 +27,9 @@ impl File {
         }
     }
 
-    pub fn name(&self) -> String {
-        format!("{}.antt", self.module)
+    fn stored(self) -> Stored {
+        let path = format!("{FOLDER}/{}.antt", self.module);
+        Stored::new(path, self.text.into_bytes())
     }
 }
 
@@ -32,8 +38,8 @@ pub fn is_run(name: &str) -> bool {
     name.starts_with("Run") && name.ends_with(".antt")
 }
 
-/// Every file that this program writes.
-pub fn files() -> Vec<File> {
+/// Every vector file.
+pub fn files() -> Vec<Stored> {
     let mut files: Vec<File> = runs::runs()
         .iter()
         .zip(1..)
@@ -48,5 +54,5 @@ pub fn files() -> Vec<File> {
         .map(|file| format!("pub mod {}\n", file.module))
         .collect();
     files.push(File::new("Lib", format!("pub mod Vectors\n{modules}")));
-    files
+    files.into_iter().map(File::stored).collect()
 }

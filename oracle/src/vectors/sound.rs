@@ -36,7 +36,8 @@ impl Cases {
     }
 }
 
-fn cases() -> Vec<(Card, bool)> {
+/// Records, and whether they are sound.
+pub fn cases() -> Vec<(Card, bool)> {
     let mut cases = Cases::default();
     cases.add(true, |_| ());
     for (settings, passes) in settings_cases::CASES {

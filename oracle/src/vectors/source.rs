@@ -7,11 +7,11 @@ use crate::transfer::{Transfer, SHARED_LENGTH};
 use super::text;
 
 /// A request, of memories of these lengths.
-struct Case {
-    settings: Settings,
-    shared_length: u32,
-    window_length: u32,
-    transfer: Transfer,
+pub struct Case {
+    pub settings: Settings,
+    pub shared_length: u32,
+    pub window_length: u32,
+    pub transfer: Transfer,
 }
 
 const WINDOW: Settings = Settings::new(268_435_456, 256, 64, 128);
@@ -39,7 +39,7 @@ impl Cases {
     }
 }
 
-fn cases() -> Vec<Case> {
+pub fn cases() -> Vec<Case> {
     let mut cases = Cases::default();
     for direction in [0, 1] {
         sizes(&mut cases, direction);

@@ -12,10 +12,11 @@ use super::coverage::fact::Field;
 /// An access of this kind without a fault, where the state allows it.
 pub fn faultless(kind: u8, settings: &Settings) -> Access {
     let Settings { base, length, .. } = *settings;
+    let last = base.wrapping_add(length.saturating_sub(4));
     let (side, s, a, b, c) = match kind {
         kind::SHARED_READ => (LOCAL, 0, 8, 0, 0),
         kind::SHARED_WRITE => (HOST, 5, 12, 0x0BAD_CAFE, 0),
-        kind::WINDOW_READ => (HOST, 0, base + length.saturating_sub(4), 0, 0),
+        kind::WINDOW_READ => (HOST, 0, last, 0, 0),
         kind::WINDOW_WRITE => (HOST, 10, base, 0x8765_4321, 0),
         kind::TAKE => (LOCAL, 1, 0, 0, 0),
         kind::PUT => (LOCAL, 3, 0, 77, 0),

@@ -6,6 +6,7 @@ use crate::card::{fresh, Card, Pair};
 use crate::rng::Rng;
 use crate::settings::Settings;
 use crate::transfer::{Running, Transfer, SHARED_LENGTH};
+use crate::world::World;
 
 use super::builder::Builder;
 use super::scripts::{self, memories, registers, transfers};
@@ -21,8 +22,33 @@ pub struct Plan {
     pub shared_length: u32,
     pub window_length: u32,
     pub script: fn(&mut Builder),
-    /// Whether faults are spread over the list.
-    pub faults: bool,
+    /// Which part of the faults is spread over the list, and of how many parts.
+    pub faults: Option<(usize, usize)>,
+}
+
+impl First {
+    /// The settings that are given.
+    pub fn settings(&self) -> Settings {
+        match self {
+            First::Fresh(settings) => *settings,
+            First::Record(card) => card.settings,
+        }
+    }
+
+    pub fn is_fresh(&self) -> bool {
+        matches!(self, First::Fresh(_))
+    }
+
+    pub fn world(&self, shared: Vec<u8>, window: Vec<u8>) -> World {
+        match self {
+            First::Fresh(settings) => World::fresh(*settings, shared, window),
+            First::Record(card) => World {
+                card: card.clone(),
+                shared,
+                window,
+            },
+        }
+    }
 }
 
 /// An abort range in the middle of the window.
@@ -42,7 +68,7 @@ const NO_WINDOW: Settings = Settings::new(0x1000_0000, 0, 0, 0);
 const FAILING: Settings = Settings::new(0x1000_0000, 64, 0, 68);
 
 pub fn plans() -> Vec<Plan> {
-    vec![
+    let mut plans = vec![
         plan(Settings::REPLAY, memories::borders),
         plan(Settings::REPLAY, transfers::abort_range),
         without_faults(plan(MIDDLE, registers::inbound_post)),
@@ -76,7 +102,21 @@ pub fn plans() -> Vec<Plan> {
             shared_length: SHARED_LENGTH - 4,
             ..record(found(), scripts::all_refused)
         }),
-    ]
+    ];
+    share_faults(&mut plans);
+    plans
+}
+
+/// Gives every list that takes faults its part of them.
+fn share_faults(plans: &mut [Plan]) {
+    let shared: Vec<&mut Plan> = plans
+        .iter_mut()
+        .filter(|plan| plan.faults.is_some())
+        .collect();
+    let parts = shared.len();
+    for (part, plan) in shared.into_iter().enumerate() {
+        plan.faults = Some((part, parts));
+    }
 }
 
 fn plan(settings: Settings, script: fn(&mut Builder)) -> Plan {
@@ -85,7 +125,7 @@ fn plan(settings: Settings, script: fn(&mut Builder)) -> Plan {
         shared_length: SHARED_LENGTH,
         window_length: settings.length,
         script,
-        faults: true,
+        faults: Some((0, 1)),
     }
 }
 
@@ -100,7 +140,7 @@ fn record(card: Card, script: fn(&mut Builder)) -> Plan {
 /// A list without further faults: it is long, or all is refused.
 fn without_faults(plan: Plan) -> Plan {
     Plan {
-        faults: false,
+        faults: None,
         ..plan
     }
 }

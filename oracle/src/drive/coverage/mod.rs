@@ -2,7 +2,7 @@
 
 pub mod fact;
 mod registers;
-mod required;
+pub mod required;
 mod transfers;
 
 use std::collections::BTreeSet;
@@ -36,9 +36,8 @@ impl Coverage {
         self.transfers = Default::default();
     }
 
-    /// The facts that are required and were not reached.
-    pub fn missing(&self) -> Vec<Fact> {
-        let mut facts = required::facts();
+    /// Those of these facts that were not reached.
+    pub fn missing(&self, mut facts: Vec<Fact>) -> Vec<Fact> {
         facts.retain(|fact| !self.reached.contains(fact));
         facts
     }

@@ -1,21 +1,14 @@
 //! The lists of accesses with their answers.
 
-mod builder;
-mod choice;
-mod coverage;
-mod faults;
-mod plans;
-mod scripts;
-
 use crate::access::{Access, Answer};
+use crate::drive::builder::Builder;
+use crate::drive::coverage::{required, Coverage};
+use crate::drive::plans::{plans, Plan};
 use crate::rng::Rng;
 use crate::settings::Settings;
 use crate::world::World;
 
 use super::text;
-use builder::Builder;
-use coverage::Coverage;
-use plans::{First, Plan};
 
 /// A list has at least so many accesses.
 const LENGTH: usize = 50;
@@ -34,20 +27,13 @@ pub struct Run {
 
 /// All lists. Between them they reach every required fact, or this panics.
 pub fn runs() -> Vec<Run> {
-    let plans = plans::plans();
-    let sharers = plans.iter().filter(|plan| plan.faults).count();
     let mut coverage = Coverage::default();
-    let mut shares = 0..sharers;
-    let runs: Vec<Run> = plans
+    let runs: Vec<Run> = plans()
         .into_iter()
         .zip(1..)
-        .map(|(plan, seed)| {
-            let share = if plan.faults { shares.next() } else { None };
-            let share = share.map(|share| (share, sharers));
-            build(plan, seed, share, &mut coverage)
-        })
+        .map(|(plan, seed)| build(plan, seed, &mut coverage))
         .collect();
-    let missing = coverage.missing();
+    let missing = coverage.missing(required::facts());
     assert!(missing.is_empty(), "not reached: {missing:#?}");
     let count = |holds: fn(&Run) -> bool| runs.iter().filter(|run| holds(run)).count();
     assert!(count(|run| run.first.card.settings != Settings::REPLAY) >= runs.len() / 2);
@@ -55,43 +41,17 @@ pub fn runs() -> Vec<Run> {
     runs
 }
 
-/// `share` is which part of the faults falls to this list, and of how many.
-fn build(plan: Plan, seed: u64, share: Option<(usize, usize)>, coverage: &mut Coverage) -> Run {
+fn build(plan: Plan, seed: u64, coverage: &mut Coverage) -> Run {
     let mut rng = Rng::new(seed);
-    let (settings, given) = match &plan.first {
-        First::Fresh(settings) => (Some(*settings), *settings),
-        First::Record(card) => (None, card.settings),
-    };
+    let given = plan.first.settings();
     let marks = [0, given.lo, given.hi, given.length];
     let shared = memory(plan.shared_length, &[0, plan.shared_length], &mut rng);
     let window = memory(plan.window_length, &marks, &mut rng);
-    let first = match plan.first {
-        First::Fresh(settings) => World::fresh(settings, shared, window),
-        First::Record(card) => World {
-            card,
-            shared,
-            window,
-        },
-    };
-    let mut faults = Vec::new();
-    if let Some((part, parts)) = share {
-        let all = faults::faults(&first.card.settings, &mut rng);
-        faults = all.into_iter().skip(part).step_by(parts).collect();
-    }
+    let first = plan.first.world(shared, window);
     let mut builder = Builder::new(first.clone(), rng, coverage);
-    (plan.script)(&mut builder);
-    while builder.entries.len() < LENGTH || !faults.is_empty() {
-        let room = LENGTH.saturating_sub(builder.entries.len());
-        let chosen = builder.rng.below(room.max(faults.len()).max(1) as u32) as usize;
-        if chosen < faults.len() {
-            let fault = faults.remove(chosen);
-            builder.access(fault);
-        } else {
-            builder.random();
-        }
-    }
+    builder.follow(&plan, LENGTH);
     Run {
-        settings,
+        settings: plan.first.is_fresh().then_some(given),
         first,
         entries: builder.entries,
         last: builder.world,

@@ -6,6 +6,8 @@ use crate::settings::Settings;
 use crate::world::World;
 
 use super::coverage::{Coverage, Observed};
+use super::faults;
+use super::plans::Plan;
 
 pub const HOST: u8 = 0;
 pub const LOCAL: u8 = 1;
@@ -30,6 +32,32 @@ impl<'a> Builder<'a> {
 
     pub fn settings(&self) -> Settings {
         self.world.card.settings
+    }
+
+    /// The plan's script, then random accesses until the list has so many, with its part of the
+    /// faults spread among them.
+    pub fn follow(&mut self, plan: &Plan, length: usize) {
+        let mut faults = Vec::new();
+        if let Some((part, parts)) = plan.faults {
+            let all = faults::faults(&self.settings(), &mut self.rng);
+            faults = all.into_iter().skip(part).step_by(parts).collect();
+        }
+        (plan.script)(self);
+        while self.entries.len() < length || !faults.is_empty() {
+            let room = length.saturating_sub(self.entries.len());
+            let chosen = self.rng.below(room.max(faults.len()).max(1) as u32) as usize;
+            if chosen < faults.len() {
+                let fault = faults.remove(chosen);
+                self.access(fault);
+            } else {
+                self.random();
+            }
+        }
+    }
+
+    /// The accesses so far.
+    pub fn accesses(&self) -> Vec<Access> {
+        self.entries.iter().map(|(access, _)| *access).collect()
     }
 
     /// Performs an access and keeps it with its answer.

@@ -1,0 +1,289 @@
+//! The cases.
+
+use std::collections::BTreeSet;
+
+use crate::access::{kind, Access};
+use crate::arbitrary;
+use crate::card::{fresh, Card, FIFOS, PAIRS};
+use crate::drive::builder::{Builder, HOST, LOCAL};
+use crate::drive::coverage::{required, Coverage};
+use crate::drive::faults::faultless;
+use crate::drive::plans::{plans, First};
+use crate::refusal::{LAST_KIND, PUT_BY};
+use crate::rng::Rng;
+use crate::settings::Settings;
+use crate::transfer::{Running, Transfer, SHARED_LENGTH};
+use crate::vectors::{fresh as settings_cases, sound, source};
+
+use super::case::{Case, Memories};
+
+const SEED: u64 = 400;
+/// Accesses of a planned list, and of a random one.
+const PLANNED: usize = 400;
+const RANDOM: usize = 24;
+const RANDOM_LISTS: usize = 120;
+const RANDOM_SOURCES: usize = 60;
+
+const MIDDLE: Settings = Settings::new(0x2000_0000, 256, 64, 128);
+const LARGEST: Settings = Settings::new(0xFFFF_0000, 65_536, 32_768, 49_152);
+
+pub fn cases() -> Vec<Case> {
+    let mut cases = Vec::new();
+    records(&mut cases);
+    lengths(&mut cases);
+    settings(&mut cases);
+    planned(&mut cases);
+    random(&mut cases);
+    sources(&mut cases);
+    cases
+}
+
+/// Every kind but a reset, and what tells of each part of the record.
+fn probe(settings: &Settings) -> Vec<Access> {
+    let mut list = Vec::new();
+    for kind in [kind::INTERRUPT_READ, kind::LINE, kind::MAILBOX_READ] {
+        list.extend([HOST, LOCAL].map(|side| Access::new(kind, side, 0, 0, 0, 0)));
+    }
+    list.extend([HOST, LOCAL].map(|side| Access::new(kind::STEP, side, 0, 0, 0, 0)));
+    for (fifo, putter) in (0..).zip(PUT_BY) {
+        let putter = putter as u8;
+        list.push(Access::new(kind::TAKE, 1 - putter, fifo, 0, 0, 0));
+        list.push(Access::new(kind::PUT, putter, fifo, 0, u32::MAX, 0));
+        list.push(Access::new(kind::PUT, putter, fifo, 0, 0, 0));
+        list.push(Access::new(kind::CLAIM, HOST, fifo, 0, 0, 0));
+        list.push(Access::new(kind::CLAIM, LOCAL, fifo, 0, 0, 0));
+    }
+    list.extend((kind::SHARED_READ..=LAST_KIND).map(|kind| faultless(kind, settings)));
+    list
+}
+
+/// Every kind, and causes of larger numbers.
+fn every_kind(settings: &Settings) -> Vec<Access> {
+    let mut list: Vec<Access> = (0..=LAST_KIND)
+        .map(|kind| faultless(kind, settings))
+        .collect();
+    list.extend([
+        Access::new(17, HOST, 0, 0, 0, 0),
+        Access::new(kind::STEP, 2, 0, 0, 0, 0),
+        Access::new(kind::RESET, LOCAL, 1, 0, 0, 0),
+        Access::new(kind::TAKE, HOST, 4, 0, 0, 0),
+        Access::new(kind::START, HOST, 0, 0, 0, 0),
+    ]);
+    list
+}
+
+fn on_record(card: Card, memories: Memories) -> Case {
+    let accesses = if card.sound() {
+        probe(&card.settings)
+    } else {
+        every_kind(&card.settings)
+    };
+    Case::Accesses {
+        first: First::Record(card),
+        memories,
+        accesses,
+    }
+}
+
+/// Sound and unsound records, each rule alone, at its border.
+fn records(cases: &mut Vec<Case>) {
+    let mut unsound = 0;
+    let given = sound::cases().into_iter().map(|(card, _)| card);
+    let written_down = |card: &Card| card.fifos.len() == FIFOS && card.pairs.len() == PAIRS;
+    for card in given.chain(further_records()).filter(written_down) {
+        unsound += usize::from(!card.sound());
+        let memories = Memories::fit(card.settings.length.min(65_536), 2 * cases.len() as u32);
+        cases.push(on_record(card, memories));
+    }
+    assert!(
+        unsound >= 100 && cases.len() >= unsound + 80,
+        "{unsound} of {}",
+        cases.len()
+    );
+}
+
+/// Numbers that are sound once they are cut to fewer bits.
+fn further_records() -> Vec<Card> {
+    let mut cards = Vec::new();
+    let mut add = |change: &dyn Fn(&mut Card)| {
+        let (_, mut card) = fresh(MIDDLE);
+        change(&mut card);
+        assert!(!card.sound());
+        cards.push(card);
+    };
+    for fifo in 0..FIFOS {
+        for count in [34, 64, 255, 256 + 5, 65_536 + 5] {
+            add(&|card| card.fifos[fifo] = (0..count).collect());
+        }
+    }
+    for data in [65_536 + 7, 1 << 24, 1 << 31] {
+        add(&|card| card.mailboxes.hldata = data);
+        add(&|card| card.mailboxes.lhdata = data);
+    }
+    for (direction, shared, pci, size, moved) in [
+        (0, 0, MIDDLE.base, 65_536 + 8, 0),
+        (1, 65_536, MIDDLE.base, 8, 0),
+        (0, 0, MIDDLE.base, 8, 256),
+        (0, 0, MIDDLE.base, 8, 65_536),
+        (128, 0, MIDDLE.base, 8, 0),
+        (0, 1 << 31, MIDDLE.base, 8, 1),
+    ] {
+        add(&|card| {
+            let transfer = Transfer::new(direction, shared, pci, size);
+            card.running = Some(Running { transfer, moved });
+        });
+    }
+    // several rules at once
+    add(&|card| {
+        card.settings.hi = 2;
+        card.fifos[3] = (0..40).collect();
+        card.pairs.iter_mut().for_each(|pair| {
+            pair.host = true;
+            pair.local = true;
+        });
+        card.mailboxes.hldata = u32::MAX;
+        card.hint.status = u32::MAX;
+        card.lint.enables = u32::MAX;
+    });
+    cards
+}
+
+/// Memories of wrong lengths.
+fn lengths(cases: &mut Vec<Case>) {
+    let mut add = |settings: Settings, shared_length, window_length| {
+        let seed = 2 * cases.len() as u32;
+        cases.push(Case::Accesses {
+            first: First::Fresh(settings),
+            memories: Memories {
+                shared_length,
+                window_length,
+                seed,
+            },
+            accesses: every_kind(&settings),
+        });
+    };
+    for shared in [0, 4, 8192, 16_380, 16_383, 16_385, 16_388, 32_768, 65_536] {
+        add(MIDDLE, shared, MIDDLE.length);
+        add(Settings::REPLAY, shared, Settings::REPLAY.length);
+    }
+    for settings in [MIDDLE, Settings::REPLAY, LARGEST] {
+        let length = settings.length;
+        for window in [
+            0,
+            length / 2,
+            length - 4,
+            length - 1,
+            length + 1,
+            length + 4,
+        ] {
+            add(settings, SHARED_LENGTH, window);
+        }
+        add(settings, SHARED_LENGTH - 4, length + 4);
+    }
+    add(MIDDLE, MIDDLE.length, SHARED_LENGTH);
+    for window in [1, 3, 4, 256] {
+        add(Settings::ZERO, SHARED_LENGTH, window);
+    }
+    // the right ones
+    for settings in [Settings::ZERO, MIDDLE, LARGEST] {
+        add(settings, SHARED_LENGTH, settings.length);
+    }
+}
+
+/// Settings that pass and settings that fail, with the window of the card that they give, and
+/// failing ones with a window of the length that they ask for.
+fn settings(cases: &mut Vec<Case>) {
+    for (settings, passes) in settings_cases::CASES {
+        let given = fresh(settings).1.settings;
+        let mut lengths = BTreeSet::from([given.length]);
+        if !passes {
+            lengths.insert(settings.length.min(65_536));
+        }
+        for length in lengths {
+            let mut accesses = probe(&given);
+            accesses.extend(probe(&settings));
+            cases.push(Case::Accesses {
+                first: First::Fresh(settings),
+                memories: Memories::fit(length, 2 * cases.len() as u32),
+                accesses,
+            });
+        }
+    }
+}
+
+/// The planned lists, each with all faults: between them they reach every required fact, or this
+/// panics.
+fn planned(cases: &mut Vec<Case>) {
+    let mut coverage = Coverage::default();
+    for (mut plan, number) in plans().into_iter().zip(0..) {
+        plan.faults = plan.faults.map(|_| (0, 1));
+        let memories = Memories {
+            shared_length: plan.shared_length,
+            window_length: plan.window_length,
+            seed: 2 * cases.len() as u32,
+        };
+        let world = plan.first.world(memories.shared(), memories.window());
+        let mut builder = Builder::new(world, Rng::new(SEED + number), &mut coverage);
+        builder.follow(&plan, PLANNED);
+        let accesses = builder.accesses();
+        let first = plan.first;
+        cases.push(Case::Accesses {
+            first,
+            memories,
+            accesses,
+        });
+    }
+    let missing = coverage.missing(required::facts());
+    assert!(missing.is_empty(), "not reached: {missing:#?}");
+}
+
+/// Random accesses to random records.
+fn random(cases: &mut Vec<Case>) {
+    let mut rng = Rng::new(SEED - 1);
+    let mut coverage = Coverage::default();
+    for _ in 0..RANDOM_LISTS {
+        let card = arbitrary::sound_card(&mut rng);
+        let memories = Memories::fit(card.settings.length, 2 * cases.len() as u32);
+        let first = First::Record(card);
+        let world = first.world(memories.shared(), memories.window());
+        let mut builder = Builder::new(world, Rng::new(rng.number()), &mut coverage);
+        for _ in 0..RANDOM {
+            builder.random();
+        }
+        let accesses = builder.accesses();
+        cases.push(Case::Accesses {
+            first,
+            memories,
+            accesses,
+        });
+    }
+}
+
+/// Source requests: those of the vectors, and random ones over large windows.
+fn sources(cases: &mut Vec<Case>) {
+    for request in source::cases() {
+        cases.push(Case::Sources {
+            settings: request.settings,
+            memories: Memories {
+                shared_length: request.shared_length,
+                window_length: request.window_length,
+                seed: 2 * cases.len() as u32,
+            },
+            transfers: vec![request.transfer],
+        });
+    }
+    let mut rng = Rng::new(SEED - 2);
+    for settings in [Settings::REPLAY, LARGEST] {
+        let random = |_| {
+            let size = 4 + 4 * rng.below(SHARED_LENGTH / 4);
+            let shared = 4 * rng.below((SHARED_LENGTH - size) / 4 + 1);
+            let pci = settings.base + 4 * rng.below((settings.length - size) / 4 + 1);
+            Transfer::new(rng.below(2) as u8, shared, pci, size)
+        };
+        cases.push(Case::Sources {
+            settings,
+            memories: Memories::fit(settings.length, 2 * cases.len() as u32),
+            transfers: (0..RANDOM_SOURCES).map(random).collect(),
+        });
+    }
+}

@@ -1,0 +1,50 @@
+//! Records, settings and memories that a replay cannot reach, with accesses; and source requests.
+//!
+//! stdin: cases one behind the other, each of numbers of 4 bytes, least byte first.
+//!
+//! - The head, 9 numbers: 0 (a record), 1 (a fresh card) or 2 (source requests); the settings base,
+//!   length, lo and hi; the lengths of shared memory and window; the seed of their bytes; how many
+//!   accesses or requests follow.
+//! - After a head with 0 the record, 149 numbers: of each FIFO its count and 32 entries, oldest
+//!   first; of each pair 1 for the host's flag plus 2 for the local one; HLDATA, LHDATA, and 1 if
+//!   LHDATA was written since reset; enables and status of HINT, then of LINT; 1 if a transfer runs,
+//!   its direction, shared address, PCI address and size, and the dwords moved.
+//! - The accesses, 4 numbers each: kind + 256 side + 65,536 S; A; B; C. A request is one of which S,
+//!   A, B and C count.
+//!
+//! stdout: lines of numbers in decimal with single spaces.
+//!
+//! - After a head with 1 the number that the settings give.
+//! - Of each access its number, V and X.
+//! - The record: the settings; a line for each FIFO, its count and the entries held; host and local
+//!   flag of each pair; the mailboxes as above; the registers as above; the transfer as above, or 0.
+//! - The digests of shared memory and window.
+//! - Of each request the length of its part and the digest of the part.
+//!
+//! Bytes: from x = the seed (the window's: the seed + 1), each byte takes x to (1,103,515,245 x +
+//! 12,345) mod 2^31, and is x / 65,536 mod 256. Digest: from 0, each byte takes it to (16,777,619
+//! digest + byte) mod 2^32.
+
+mod case;
+mod cases;
+
+use super::Program;
+
+/// What the input has room for.
+const LIMIT: usize = 1_000_000;
+
+pub fn program() -> Program {
+    let cases = cases::cases();
+    let mut stdin = Vec::new();
+    let mut stdout = String::new();
+    for case in &cases {
+        stdin.extend(case.numbers().into_iter().flat_map(u32::to_le_bytes));
+        stdout += &case.text();
+    }
+    assert!(stdin.len() < LIMIT, "{}", stdin.len());
+    Program {
+        name: "device_test",
+        stdin,
+        stdout: stdout.into_bytes(),
+    }
+}

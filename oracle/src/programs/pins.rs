@@ -1,0 +1,74 @@
+//! Every mode with all pins, and what is refused.
+//!
+//! stdin: cases of 6 bytes: mode, pins, data (4 bytes, least byte first).
+//! stdout: for each a line with number, lanes and dword.
+
+use crate::pins::{decode, Decoded};
+use crate::rng::Rng;
+
+use super::Program;
+
+const SEED: u64 = 200;
+
+/// Data words: none and all of the bits, each byte of its own, each byte alone, and the bits that
+/// the modes tell apart.
+const DATA: [u32; 12] = [
+    0x0000_0000,
+    0xFFFF_FFFF,
+    0x1234_5678,
+    0xA1B2_C3D4,
+    0x0000_ABCD,
+    0x8040_2010,
+    0x0000_00FF,
+    0x0000_FF00,
+    0x00FF_0000,
+    0xFF00_0000,
+    0x7FFE_8001,
+    0x0102_0304,
+];
+
+const REFUSED_MODES: [u8; 5] = [4, 5, 7, 128, 255];
+const REFUSED_PINS: [u8; 5] = [16, 17, 31, 128, 255];
+
+fn cases() -> Vec<(u8, u8, u32)> {
+    let mut rng = Rng::new(SEED);
+    let mut cases = Vec::new();
+    for mode in 0..=3 {
+        for pins in 0..=15 {
+            cases.extend(DATA.map(|data| (mode, pins, data)));
+            cases.push((mode, pins, rng.word()));
+        }
+    }
+    let mut refused = |mode, pins| cases.extend([0, 0xA1B2_C3D4].map(|data| (mode, pins, data)));
+    for mode in REFUSED_MODES {
+        for pins in (0..=15).chain(REFUSED_PINS) {
+            refused(mode, pins);
+        }
+    }
+    for mode in 0..=3 {
+        for pins in REFUSED_PINS {
+            refused(mode, pins);
+        }
+    }
+    cases
+}
+
+pub fn program() -> Program {
+    let mut stdin = Vec::new();
+    let mut stdout = String::new();
+    for (mode, pins, data) in cases() {
+        stdin.extend([mode, pins]);
+        stdin.extend(data.to_le_bytes());
+        let Decoded {
+            number,
+            lanes,
+            dword,
+        } = decode(mode, pins, data);
+        stdout += &format!("{number} {lanes} {dword}\n");
+    }
+    Program {
+        name: "pins_test",
+        stdin,
+        stdout: stdout.into_bytes(),
+    }
+}
