@@ -72,15 +72,15 @@ unfoldable pub replay : Standing → (bytes : List ℕ) → Replayed
 replay s bytes = replayRecords (recordsIn bytes) s bytes
 
 -- "then `end` and the count of records", where nothing was refused
-abbrev pub lastText : Standing → List ℕ
-lastText s = if s .stopped then [] else endText (s .count)
+abbrev pub lastText : (stopped : Bool) → (count : ℕ) → List ℕ
+lastText stopped count = if stopped then [] else endText count
 
 -- "Numbers start at 0."
 abbrev pub start : Standing
 start = record { world = bench; expected = 0; count = 0; stopped = false }
 
 abbrev pub wholeText : Replayed → List ℕ
-wholeText r = r .text ++ lastText (r .standing)
+wholeText r = r .text ++ lastText (r .standing .stopped) (r .standing .count)
 
 -- all that the program writes for a trace
 unfoldable pub replayText : (trace : List ℕ) → List ℕ

@@ -1,0 +1,36 @@
+-- `memories::window_refusal` meets its contract: the numbered checks are those of the definition, in its order.
+use Rattle.memories.specs.StoreLaws.{not-host}
+use borrow.Author.Needs.{needs}
+use Rattle.memories.proofs.window_refusal.Statement.{statement}
+use Rattle.memories.proofs.window_refusal.Tie as tie
+
+outside-window-requires : tie.Need-outside-window-requires
+outside-window-requires c κs = search needs
+
+when-requires : tie.Need-when-requires
+when-requires c κs = search needs
+
+when-requires-2 : tie.Need-when-requires-2
+when-requires-2 c κs = search needs
+
+when-requires-3 : tie.Need-when-requires-3
+when-requires-3 c κs = search needs
+
+when-requires-4 : tie.Need-when-requires-4
+when-requires-4 c κs = search needs
+
+returns : tie.Need-returns
+returns c =
+    let o = c .before .before .before .before in
+    rw (c .when4 .ensures, c .before .when3 .ensures, c .before .before .when2 .ensures, c .before .before .before .when .ensures, o .outside-window .ensures, not-host (o .before .before .before .args .q .side))
+
+pub window-refusal-spec : {M : Type 1} → statement M
+window-refusal-spec =
+    tie.close
+    (tie.spec
+    outside-window-requires
+    when-requires
+    when-requires-2
+    when-requires-3
+    when-requires-4
+    returns)
