@@ -2,19 +2,17 @@
 use mathlib.Core.Path.{_≡_, refl, ap, sym, _∙_}
 use mathlib.Core.Bool.{Bool, true, false}
 use mathlib.Core.List.{List, [], _∷_, _++_, flatten, append-assoc, append-nil}
-use Prim.Native.Nat.{ℕ, zero, suc, _+_, _*_, _/_, _%_, _≤_, _<_}
-use native.Mathlib.Nat.{zero-add, suc-add}
+use Prim.Native.Nat.{ℕ, zero, suc, _*_, _/_, _%_, _≤_, _<_}
 use native.Mathlib.Omega.{arith}
 use lib.ListN.{length, drop, replicate, length-append, length-drop}
 use lib.Seq.{drop-append-le}
-use Rattle.model.specs.Lanes.{bytesOf}
 use Rattle.model.specs.Trace.{recordBytes, readRecord}
 use Rattle.model.specs.TraceLaws.{reads-first}
 use Rattle.model.specs.Text.{digitsWithin, decimalText, lineText, endText, logText}
 use Rattle.model.specs.Accesses.{access}
 use Rattle.model.specs.State.{sound, freshCard}
 use Rattle.model.specs.Bench.{q, bench}
-use Rattle.model.specs.Replay.{Standing, Replayed, nothingMore, _andThen_, replayRecord, replayRecords, recordsIn, replay, start, wholeText, replayText}
+use Rattle.model.specs.Replay.{Standing, Replayed, nothingMore, _andThen_, replayRecord, replayRecords, recordsIn, replay, replayStart, wholeText, replayText}
 
 -- RECORD BY RECORD
 
@@ -86,9 +84,9 @@ chunked s (bytes ∷ next ∷ chunks) h =
     ∙ sym (split (length bytes / 20) s bytes (flatten (next ∷ chunks)) (omega arith))
 
 -- the program's text, chunk after chunk
-pub chunked-text : (chunks : List (List ℕ)) → WholeRecords chunks → wholeText (replayChunks start chunks) ≡ replayText (flatten chunks)
+pub chunked-text : (chunks : List (List ℕ)) → WholeRecords chunks → wholeText (replayChunks replayStart chunks) ≡ replayText (flatten chunks)
 unfolding replayText
-chunked-text chunks h = ap wholeText (chunked start chunks h)
+chunked-text chunks h = ap wholeText (chunked replayStart chunks h)
 
 -- VECTORS
 

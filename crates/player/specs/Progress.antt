@@ -47,7 +47,7 @@ one-less : {whole : Replayed} {before input out out′ : List ℕ} {at end end�
     Left whole before input (at + 20) (part .standing) end′ out′
 one-less {input} {at} {now} part h going e l p =
     let more : replay now (drop at input) ≡ (part andThen λ s. replay s (drop (at + 20) input)) =
-        rw (e, ← drop-drop 20 at input) (replay-more now (drop at input) (omega (arith, length-drop at input)) going)
+    rw (e, ← drop-drop 20 at input) (replay-more now (drop at input) (omega (arith, length-drop at input)) going)
     in
     record { text = second-left (rw more at (l .text)) p; standing = rw more at (l .standing) }
 

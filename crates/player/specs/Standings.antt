@@ -31,6 +31,6 @@ unfoldable pub zeros : ℕ → List ℕ
 zeros n = replicate n 0
 
 -- the fresh card of the replay's settings, between zeroed memories
-pub at-start : {n : ℕ} (card : Card) → record { number = n; card = stateOf card } ≡ freshCard replaySettings → going card 0 0 (zeros 16384) (zeros 32768) ≡ model.start
+pub at-start : {n : ℕ} (card : Card) → record { number = n; card = stateOf card } ≡ freshCard replaySettings → going card 0 0 (zeros 16384) (zeros 32768) ≡ model.replayStart
 unfolding zeros bench
 at-start card e = ap (λ (m : NewCard). record { world = record { card = m .card; shared = zeros 16384; window = zeros 32768 }; expected = 0; count = 0; stopped = false }) e

@@ -4,7 +4,7 @@ ghost use Prim.Native.Nat.{_+_, _*_, _<_, _≤_, _^_};
 ghost use lib.ListN.{length};
 ghost use Rattle.model.specs.Text.{lineText};
 ghost use Rattle.model.specs.TraceLaws.{readingNumber};
-ghost use Rattle.model.specs.Replay.{recordsIn, replay, lastText, start};
+ghost use Rattle.model.specs.Replay.{recordsIn, replay, lastText, replayStart};
 ghost use Rattle.access.specs.Words.{answerOf};
 ghost use Rattle.trace.specs.Readings.{readOf};
 ghost use Rattle.report.specs.Put.{Put};
@@ -43,7 +43,7 @@ pub fn window_memory() -> [u8; 32768]
 
 // "Base 268,435,456, length 32,768, abort range 28,672 to 32,768"; "numbers start at 0".
 pub fn start() -> Standing
-    ensures { λ r. ⌜ standingOf r (zeros 16384) (zeros 32768) ≡ start ⌝ }
+    ensures { λ r. ⌜ standingOf r (zeros 16384) (zeros 32768) ≡ replayStart ⌝ }
 {
     let settings = Settings {
         base: 268435456,
@@ -149,5 +149,9 @@ pub fn last_line(stopped: bool, count: u64, out: &mut [u8]) -> usize
     ensures { λ r. ⌜ Put (now (out .entry)) 0 (lastText stopped count) r (now (out .exit)) ⌝ }
     ensures { λ r. ⌜ r ≤ 25 ⌝ }
 {
-    if stopped { 0 } else { report::put_end(out, 0, count) }
+    if stopped {
+        0
+    } else {
+        report::put_end(out, 0, count)
+    }
 }

@@ -1,24 +1,38 @@
-// Document 01, "Trace and replay": replays the trace of standard input on standard output.
+// Document 01, "Trace and replay": replays the trace of standard input, and writes the answers to standard output.
 ghost use mathlib.Core.Path.{_≡_};
-ghost use Prim.Native.Nat.{_+_, _*_, _<_, _≤_, _^_};
+ghost use Prim.Native.Nat.{_+_, _<_, _≤_, _^_};
 ghost use lib.ListN.{length};
-ghost use Rattle.model.specs.Replay.{start};
+ghost use Rattle.model.specs.Replay.{replayStart};
 ghost use Rattle.player.specs.Standings.{standingOf};
 use player::Standing;
 
-// 3,276 records of 20 bytes.
+// A chunk is 3,276 records of 20 bytes.
 const CHUNK: usize = 65520;
 
-// So many chunks that the count of their records stays below 2 to the 64: 5 times 2 to the 50. What is read at 10 GB a second lasts a thousand years.
+// Every loop must have an end: 5 times 2 to the 50 chunks, whose records a u64 still counts. At 10 GB a second they last a thousand years.
 const CHUNKS: u64 = 5629499534213120;
 
+// `more`: the input did not end within the chunk, and nothing was refused.
 struct Turn {
-    size: usize,
+    more: bool,
     standing: Standing,
 }
 
+fn input_buffer() -> [u8; 65520]
+    ensures { λ r. ⌜ length r ≡ 65520 ⌝ }
+{
+    [0; 65520]
+}
+
+// A record's line has at most 32 bytes.
+fn output_buffer() -> [u8; 104832]
+    ensures { λ r. ⌜ length r ≡ 104832 ⌝ }
+{
+    [0; 104832]
+}
+
 // Reads a chunk, answers its records and writes their text.
-fn turn(
+fn replay_chunk(
     start: Standing,
     shared: &mut [u8],
     window: &mut [u8],
@@ -35,12 +49,12 @@ fn turn(
     io::write_all(1, &out[0..end]);
     let standing = replayed.standing;
     Turn {
-        size: size,
+        more: (size == CHUNK) & !standing.stopped,
         standing: standing,
     }
 }
 
-// Chunk after chunk, until the input ends or a record is refused.
+// Chunk after chunk, from the fresh card and zeroed memories.
 fn replay(
     start: Standing,
     shared: &mut [u8],
@@ -48,15 +62,15 @@ fn replay(
     input: &mut [u8],
     out: &mut [u8],
 ) -> Standing
-    requires { ⌜ standingOf start (now shared) (now window) ≡ start ⌝ }
+    requires { ⌜ standingOf start (now shared) (now window) ≡ replayStart ⌝ }
     requires { ⌜ (length (now input) ≡ 65520) × (length (now out) ≡ 104832) ⌝ }
 {
     let mut standing = start;
     let mut chunks = CHUNKS;
     while chunks > 0 {
-        let turn = turn(standing, shared, window, input, out);
+        let turn = replay_chunk(standing, shared, window, input, out);
         standing = turn.standing;
-        if standing.stopped | (turn.size < CHUNK) {
+        if !turn.more {
             return standing;
         }
         chunks -= 1;
@@ -72,17 +86,4 @@ fn main() {
     let standing = replay(player::start(), &mut shared, &mut window, &mut input, &mut out);
     let end = player::last_line(standing.stopped, standing.count, &mut out);
     io::write_all(1, &out[0..end]);
-}
-
-fn input_buffer() -> [u8; 65520]
-    ensures { λ r. ⌜ length r ≡ 65520 ⌝ }
-{
-    [0; 65520]
-}
-
-// A line has at most 32 bytes.
-fn output_buffer() -> [u8; 104832]
-    ensures { λ r. ⌜ length r ≡ 104832 ⌝ }
-{
-    [0; 104832]
 }

@@ -79,9 +79,11 @@ returns-2 c =
     let inside = c .before .before .before .before .before .before .before .before .before in
     let now = inside .before .loop in
     let read = rw (from (inside .before .before .before .before .before .before .before .before .args .input .now) (now .at)) at (c .before .before .before .before .before .before .before .read-record .ensures) in
-    let refused = read-refused (c .before .before .before .before .before .enum-told .given .1) (c .before .before .before .refusal-number .ensures) ∙ read in
-    (rw (inside .before .before .before .if1 .left) (refused-left (going (now .card) (now .expected) (now .count) (now .shared) (now .window)) refl (inside .loop-test .taken) (c .before .before .before .refusal-number .result) refused
-        (c .before .before .put-log .ensures .0) (now .inv .5)), (omega arith, omega arith))
+    let refused = read-refused (c .before .before .before .before .before .enum-told .given .1) (c .before .before .before .refusal-number .ensures) ∙ read in (
+      rw (inside .before .before .before .if1 .left) (refused-left (going (now .card) (now .expected) (now .count) (now .shared) (now .window)) refl (inside .loop-test .taken) (c .before .before .before .refusal-number .result) refused
+          (c .before .before .put-log .ensures .0) (now .inv .5)),
+      (omega arith, omega arith),
+    )
 
 access-requires : tie.Need-access-requires Inv-loop μ-loop
 access-requires c κs = search needs
@@ -106,9 +108,14 @@ loop-again c =
     let inside = c .before .before .before .before .before .before .before .before .before .before .before .before .before .before .before .before .before .before in
     let now = inside .before .loop in
     let answer = c .before .before .before .before .before .before .before .before .before .before .access in
-    let read = rw (c .before .before .before .before .before .before .before .before .before .before .before .before .before .before .read .given .1, from (inside .before .before .before .before .before .before .before .before .args .input .now) (now .at)) at (c .before .before .before .before .before .before .before .before .before .before .before .before .before .before .before .before .read-record .ensures) in
-    (search needs, search needs, search needs, omega arith, omega arith,
-     rw (c .next-number .ensures) (answered-left (going (now .card) (now .expected) (now .count) (now .shared) (now .window)) refl (inside .loop-test .taken) (outcomeOf (answer .result) _ _) read (answer .ensures .0) (c .before .before .before .before .put-answer .ensures .0) (now .inv .5)))
+    let read = rw (c .before .before .before .before .before .before .before .before .before .before .before .before .before .before .read .given .1, from (inside .before .before .before .before .before .before .before .before .args .input .now) (now .at)) at (c .before .before .before .before .before .before .before .before .before .before .before .before .before .before .before .before .read-record .ensures) in (
+      search needs,
+      search needs,
+      search needs,
+      omega arith,
+      omega arith,
+      rw (c .next-number .ensures) (answered-left (going (now .card) (now .expected) (now .count) (now .shared) (now .window)) refl (inside .loop-test .taken) (outcomeOf (answer .result) _ _) read (answer .ensures .0) (c .before .before .before .before .put-answer .ensures .0) (now .inv .5)),
+    )
 
 same-length-4 : tie.Need-same-length-4 Inv-loop μ-loop
 same-length-4 c = search needs
