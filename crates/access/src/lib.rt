@@ -41,7 +41,8 @@ pub const SIZE: u8 = 8;
 pub const ADDRESS: u8 = 9;
 
 pub const NOT_RUNNING: u8 = 10;
-// the trace reader's
+
+// The trace reader's.
 pub const SHORT_RECORD: u8 = 20;
 
 pub const WRONG_MARK: u8 = 21;

@@ -1,3 +1,4 @@
 pub mod Complement
 pub mod Registers
+pub mod Sets
 pub mod SideNumbers

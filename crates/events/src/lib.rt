@@ -15,6 +15,7 @@ ghost use Rattle.events.specs.Registers.{registerAs, raisedAll, valueWit
 pub struct EventSet(pub u32);
 
 pub const NONE: EventSet = EventSet(0);
+
 // "Event positions have one set of names for both." Position 2 is reserved.
 pub const LOCAL_OVERFLOW: EventSet = EventSet(1 << 0);
 

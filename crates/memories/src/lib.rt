@@ -66,6 +66,7 @@ fn in_abort_range(settings: Settings, at: u32) -> bool
 fn window_refusal(q: Access, settings: Settings, unused: bool) -> u8
     ensures { λ r. ⌜ r ≡ refusal (windowChecks (settingsAs settings) (sideOf (q .side)) unused (q .s) (q .a)) ⌝ }
 {
+    let outside = outside_window(settings, q.a);
     access::when(
         access::UNUSED_FIELD,
         unused,
@@ -75,7 +76,7 @@ fn window_refusal(q: Access, settings: Settings, unused: bool) -> u8
             access::when(
                 access::WRONG_SIDE,
                 q.side != 0,
-                access::when(access::ADDRESS, outside_window(settings, q.a), 0),
+                access::when(access::ADDRESS, outside, 0),
             ),
         ),
     )

@@ -5,7 +5,7 @@ use Prim.Native.Nat.{ℕ, zero, suc, _+_, _/_, _≤_, _<_}
 use native.Mathlib.Omega.{arith}
 use native.Mathlib.Nat.{div-one, div-div-eq-div-mul, pow-succ'}
 use lib.ListN.{getD, replicate}
-use Rattle.model.specs.Lanes.{dwordOf, byteOf, bytesOf}
+use Rattle.model.specs.Lanes.{dwordOf, bytesOf, byteOf}
 use Rattle.model.specs.Pins.{lanesOf, dataByte, decode}
 use Rattle.model.specs.PinLaws.{decode-is}
 use Rattle.lanes.specs.Merge.{merge}

@@ -4,7 +4,7 @@ ghost use mathlib.Core.Bool.{true, not};
 ghost use mathlib.Core.List.{List, [], _∷_};
 ghost use Prim.Native.Nat.{ℕ};
 ghost use Rattle.model.specs.Checks.{refusal, _for_};
-ghost use Rattle.model.specs.Sides.{local, sideOf, notBy};
+ghost use Rattle.model.specs.Sides.{sideOf, notBy};
 ghost use Rattle.model.specs.State.{World, above, directionCheck, transferChecks, sound};
 ghost use Rattle.model.specs.FifosAndFlags.{putter};
 ghost use Rattle.model.specs.Accesses as model;

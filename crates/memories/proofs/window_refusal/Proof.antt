@@ -21,8 +21,8 @@ when-requires-4 c κs = search needs
 
 returns : tie.Need-returns
 returns c =
-    let o = c .before .before .before .before in
-    rw (c .when4 .ensures, c .before .when3 .ensures, c .before .before .when2 .ensures, c .before .before .before .when .ensures, o .outside-window .ensures, not-host (o .before .before .before .args .q .side))
+    let o = c .before .before .before .before .before .before in
+    rw (c .when4 .ensures, c .before .when3 .ensures, c .before .before .when2 .ensures, c .before .before .before .when .ensures, o .outside-window .ensures, not-host (o .before .args .q .side))
 
 pub window-refusal-spec : {M : Type 1} → statement M
 window-refusal-spec =
