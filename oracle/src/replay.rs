@@ -80,7 +80,7 @@ fn write_line(output: &mut impl Write, number: u16, answer: &Answer) -> io::Resu
     write_number(output, answer.x, b'\n')
 }
 
-/// A number in decimal, and the byte after it. (`write!` takes twice the time of a whole replay.)
+/// A number in decimal, and the byte after it. (With `write!` a replay takes half as long again.)
 fn write_number(output: &mut impl Write, number: u32, after: u8) -> io::Result<()> {
     let mut text = [after; DIGITS + 1];
     let mut start = DIGITS;

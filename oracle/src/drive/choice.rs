@@ -12,7 +12,13 @@ const WEIGHTS: [u32; 8] = [4, 4, 5, 3, 4, 6, 9, 1];
 impl Builder<'_> {
     /// One random access.
     pub fn random(&mut self) {
-        let access = match self.rng.weighted(&WEIGHTS) {
+        let access = self.choice();
+        self.access(access);
+    }
+
+    /// A random access, not yet performed.
+    pub fn choice(&mut self) -> Access {
+        match self.rng.weighted(&WEIGHTS) {
             0 => self.shared_access(),
             1 => self.window_access(),
             2 => self.fifo_access(),
@@ -21,16 +27,15 @@ impl Builder<'_> {
             5 => self.interrupt_access(),
             6 => self.transfer_access(),
             _ => Access::new(kind::RESET, self.side(), 0, 0, 0, 0),
-        };
-        self.access(access);
+        }
     }
 
-    fn side(&mut self) -> u8 {
+    pub fn side(&mut self) -> u8 {
         self.rng.pick(&[HOST, LOCAL])
     }
 
     /// A dword: often one whose bits stand out.
-    fn dword(&mut self) -> u32 {
+    pub fn dword(&mut self) -> u32 {
         match self.rng.below(8) {
             0 => 0,
             1 => u32::MAX,
@@ -39,7 +44,7 @@ impl Builder<'_> {
         }
     }
 
-    fn lanes(&mut self) -> u8 {
+    pub fn lanes(&mut self) -> u8 {
         self.rng.below(16) as u8
     }
 

@@ -2,6 +2,7 @@
 
 mod device;
 mod pins;
+mod replay;
 mod trace;
 
 use crate::stored::Stored;
@@ -18,6 +19,7 @@ pub fn files() -> Vec<Stored> {
     let programs = [pins::program(), trace::program(), device::program()];
     programs
         .into_iter()
+        .chain(replay::programs())
         .flat_map(|program| {
             let path = |file| format!("{}/{file}", program.name);
             [

@@ -61,6 +61,18 @@ pub enum StepPlace {
     BelowBase,
 }
 
+/// Where an access falls, seen from the running transfer's range in that memory.
+#[derive(Clone, Copy, Debug, PartialEq, Eq, PartialOrd, Ord)]
+pub enum Near {
+    /// On a dword that was moved already.
+    Moved,
+    /// On a dword that is still to be moved.
+    ToMove,
+    /// On the dword before the range, or on that after it.
+    Before,
+    After,
+}
+
 /// What a host mailbox read meets.
 #[derive(Clone, Copy, Debug, PartialEq, Eq, PartialOrd, Ord)]
 pub enum Bay {
@@ -243,6 +255,12 @@ pub enum Fact {
     },
     /// A step by the side that did not start.
     StepByOtherSide,
+    /// A kind of 1 to 4 was done while a transfer ran.
+    WhileRunning {
+        kind: u8,
+        direction: u8,
+        near: Near,
+    },
     /// A dword was written while its transfer ran, and moved afterwards.
     MovedAsItStoodThen {
         direction: u8,

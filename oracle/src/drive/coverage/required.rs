@@ -5,7 +5,7 @@ use crate::card::FIFOS;
 use crate::interrupts::event;
 use crate::refusal::LAST_KIND;
 
-use super::fact::{Bay, Cleared, Event, Fact, Field, Fifo, Flag, Place, Start, StepPlace};
+use super::fact::{Bay, Cleared, Event, Fact, Field, Fifo, Flag, Near, Place, Start, StepPlace};
 
 /// Every event position that exists.
 pub const EVENTS: [u32; 9] = [
@@ -29,6 +29,41 @@ pub fn facts() -> Vec<Fact> {
     events(&mut facts);
     transfers(&mut facts);
     facts
+}
+
+/// What a fresh card with the replay's settings can reach of it, and accesses to the range of a
+/// running transfer and beside it.
+pub fn of_replay() -> Vec<Fact> {
+    let mut facts = facts();
+    facts.retain(|fact| !beyond_replay(fact));
+    for kind in kind::SHARED_READ..=kind::WINDOW_WRITE {
+        for direction in 0..=1 {
+            let places = [Near::Moved, Near::ToMove, Near::Before, Near::After];
+            facts.extend(places.map(|near| Fact::WhileRunning {
+                kind,
+                direction,
+                near,
+            }));
+        }
+    }
+    facts
+}
+
+/// Its record is sound and its memories fit, so that nothing is refused with 1. The abort range
+/// ends with the window: no step gets past it.
+fn beyond_replay(fact: &Fact) -> bool {
+    match fact {
+        Fact::Refused { number: 1, .. } | Fact::Over { given: 1, .. } => true,
+        Fact::Step {
+            v: 4, moved_before, ..
+        } => *moved_before,
+        Fact::StepAt { place, v } => match place {
+            StepPlace::AtHi => *v != 4,
+            StepPlace::Last => *v != 3,
+            _ => false,
+        },
+        _ => false,
+    }
 }
 
 /// The refusals that a kind can give besides 1, 2 and 3.

@@ -4,7 +4,7 @@ use crate::access::{kind, Access};
 use crate::settings::{Settings, PCI_SPACE};
 use crate::transfer::{Running, SHARED_LENGTH};
 
-use super::fact::{Fact, Start, StepPlace};
+use super::fact::{Fact, Near, Start, StepPlace};
 use super::Observed;
 
 /// What is remembered within one list.
@@ -28,7 +28,8 @@ impl History {
                 }
             }
             (kind::STEP, 0, Some(running)) => self.step(observed, running, facts),
-            (kind::SHARED_WRITE | kind::WINDOW_WRITE, 0, Some(running)) => {
+            (kind::SHARED_READ..=kind::WINDOW_WRITE, 0, Some(running)) => {
+                facts.extend(while_running(access, &running));
                 self.source_written.extend(source_dword(access, &running));
             }
             _ => (),
@@ -55,6 +56,29 @@ impl History {
             facts.push(Fact::StepAt { place, v });
         }
     }
+}
+
+/// Whether an access falls on the range of the running transfer or beside it.
+fn while_running(access: &Access, running: &Running) -> Option<Fact> {
+    let transfer = running.transfer;
+    let first = match access.kind {
+        kind::SHARED_READ | kind::SHARED_WRITE => transfer.shared,
+        _ => transfer.pci,
+    };
+    let dword = (i64::from(access.a) - i64::from(first)) / 4;
+    let [moved, dwords] = [running.moved, transfer.dwords()].map(i64::from);
+    let near = match dword {
+        -1 => Near::Before,
+        _ if dword == dwords => Near::After,
+        _ if (0..moved).contains(&dword) => Near::Moved,
+        _ if (moved..dwords).contains(&dword) => Near::ToMove,
+        _ => return None,
+    };
+    Some(Fact::WhileRunning {
+        kind: access.kind,
+        direction: transfer.direction,
+        near,
+    })
 }
 
 /// Which dword of a running transfer's source a write falls on.

@@ -57,6 +57,11 @@ pub fn inbound_post(b: &mut Builder) {
     b.lines();
 }
 
+pub fn outbound_free(b: &mut Builder) {
+    overflow(b, 2);
+    drain(b, 2);
+}
+
 pub fn outbound_post(b: &mut Builder) {
     overflow(b, 3);
     drain(b, 3);

@@ -1,0 +1,155 @@
+//! Damaged traces: each refusal of the reader at several places, short traces, and the borders of
+//! the pieces in which the replay program reads.
+
+use std::collections::BTreeSet;
+
+use crate::access::Access;
+use crate::drive::builder::Builder;
+use crate::drive::coverage::Coverage;
+use crate::replay::{bench, text};
+use crate::rng::Rng;
+use crate::trace::{refused, trace, RECORD};
+
+const SEED: u64 = 700;
+/// The replay program reads 65,520 bytes at a time: so many records.
+const PIECE: usize = 3276;
+/// The records of a trace in whose middle something is damaged.
+const FEW: usize = 10;
+
+/// Changes of a record: a byte, and the bits that change.
+const CHANGES: [(usize, u8); 9] = [
+    (0, 0x01),
+    (0, 0x12),
+    (1, 0x80),
+    (1, 0x12),
+    (2, 0x01),
+    (2, 0xFF),
+    (3, 0x01),
+    (7, 0x01),
+    (7, 0x80),
+];
+
+/// Between them they end in every required line, or this panics.
+pub fn traces() -> Vec<Vec<u8>> {
+    let few = trace(&random(FEW, SEED));
+    let mut traces = Vec::new();
+    lengths(&few, &mut traces);
+    changes(&few, &mut traces);
+    lost_and_doubled(&few, &mut traces);
+    borders(&mut traces);
+    past_the_last_number(&mut traces);
+    assert_ends(&traces);
+    traces
+}
+
+/// Random accesses to a fresh card.
+fn random(count: usize, seed: u64) -> Vec<Access> {
+    let mut coverage = Coverage::default();
+    let mut builder = Builder::new(bench(), Rng::new(seed), &mut coverage);
+    for _ in 0..count {
+        builder.random();
+    }
+    builder.accesses()
+}
+
+fn changed(trace: &[u8], record: usize, changes: &[(usize, u8)]) -> Vec<u8> {
+    let mut trace = trace.to_vec();
+    for (at, bits) in changes {
+        trace[RECORD * record + at] ^= bits;
+    }
+    trace
+}
+
+/// The first 0 to 45 bytes, also with a wrong mark in what is left over.
+fn lengths(few: &[u8], traces: &mut Vec<Vec<u8>>) {
+    for length in 0..=45 {
+        traces.push(few[..length].to_vec());
+    }
+    let wrong = changed(few, 1, &[(0, 1), (2, 1)]);
+    for length in RECORD..2 * RECORD {
+        traces.push(wrong[..length].to_vec());
+    }
+    traces.push(vec![0; 19]);
+    traces.push(vec![0; 20]);
+    traces.push(vec![0; 45]);
+}
+
+/// Each change alone, and some together, in each record.
+fn changes(few: &[u8], traces: &mut Vec<Vec<u8>>) {
+    for record in 0..FEW {
+        for change in CHANGES {
+            traces.push(changed(few, record, &[change]));
+        }
+        traces.push(changed(few, record, &[(7, 1), (2, 1)]));
+        traces.push(changed(few, record, &[(7, 1), (2, 1), (1, 1)]));
+        traces.push(changed(few, record, &[(7, 1), (0, 1)]));
+    }
+}
+
+/// A record or a byte that is lost, or stands there twice; records that changed places.
+fn lost_and_doubled(few: &[u8], traces: &mut Vec<Vec<u8>>) {
+    for record in [0, 4, FEW - 1] {
+        let (before, rest) = few.split_at(RECORD * record);
+        let after = &rest[RECORD..];
+        traces.push([before, after].concat());
+        traces.push([before, &rest[..RECORD], rest].concat());
+        traces.push([before, &rest[1..]].concat());
+        traces.push([before, &rest[..1], rest].concat());
+    }
+    let (first, second) = (&few[..RECORD], &few[RECORD..2 * RECORD]);
+    traces.push([second, first].concat());
+}
+
+/// Ends in, at and behind the end of a piece, and changes in the records around it.
+fn borders(traces: &mut Vec<Vec<u8>>) {
+    let whole = trace(&random(2 * PIECE + 1, SEED + 1));
+    let piece = RECORD * PIECE;
+    for length in [
+        piece - 20,
+        piece - 10,
+        piece - 1,
+        piece,
+        piece + 1,
+        piece + 19,
+        piece + 20,
+        2 * piece,
+        2 * piece + 1,
+    ] {
+        traces.push(whole[..length].to_vec());
+    }
+    for record in [PIECE - 1, PIECE, PIECE + 1] {
+        let rest = &whole[..RECORD * (record + 1)];
+        for change in [(1, 1), (3, 1), (7, 1)] {
+            traces.push(changed(rest, record, &[change]));
+        }
+    }
+}
+
+/// The record number starts again at 0, and what is counted goes on.
+fn past_the_last_number(traces: &mut Vec<Vec<u8>>) {
+    let records = usize::from(u16::MAX) + 3;
+    let reads = vec![Access::new(13, 0, 0, 0, 0, 0); records];
+    let last = records - 1;
+    traces.push(changed(&trace(&reads), last, &[(2, 0xFF), (3, 0xFF)]));
+}
+
+fn assert_ends(traces: &[Vec<u8>]) {
+    let ends: BTreeSet<String> = traces.iter().map(|trace| last_line(trace)).collect();
+    let mut required = Vec::new();
+    for number in [refused::MARK, refused::NUMBER, refused::ZERO_BYTE] {
+        let records = (0..FEW).chain([PIECE - 1, PIECE, PIECE + 1]);
+        required.extend(records.map(|record| format!("log {number} at {record}")));
+    }
+    let short = [0, 1, 2, PIECE - 1, PIECE, 2 * PIECE];
+    required.extend(short.map(|record| format!("log {} at {record}", refused::SHORT)));
+    required.push(format!("log {} at 65537", refused::NUMBER));
+    let whole = [0, 1, 2, PIECE - 1, PIECE, PIECE + 1, 2 * PIECE];
+    required.extend(whole.map(|records| format!("end {records}")));
+    required.retain(|line| !ends.contains(line));
+    assert!(required.is_empty(), "not reached: {required:?}");
+}
+
+fn last_line(trace: &[u8]) -> String {
+    let text = String::from_utf8(text(trace)).expect("the text is ASCII");
+    text.lines().last().unwrap_or_default().to_string()
+}

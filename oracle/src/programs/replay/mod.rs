@@ -1,0 +1,56 @@
+//! Traces, and what the replay writes of them.
+
+mod damaged;
+mod long;
+mod short;
+
+use crate::access::{kind, Access};
+use crate::replay::text;
+use crate::trace::trace;
+
+use super::Program;
+
+/// What all traces and texts may take together.
+const LIMIT: usize = 10_000_000;
+
+pub fn programs() -> [Program; 3] {
+    let programs = [
+        on_trace("replay", trace(&WHOLE_CASE)),
+        on_trace("replay_long", trace(&long::accesses())),
+        on_traces("replay_test", short::traces()),
+    ];
+    let sizes = programs.iter().map(|p| p.stdin.len() + p.stdout.len());
+    assert!(sizes.sum::<usize>() < LIMIT);
+    programs
+}
+
+/// "Whole case: local kind 9 with B 16,777,216; host kind 10; host kind 15."
+const WHOLE_CASE: [Access; 3] = [
+    Access::new(kind::MAILBOX_WRITE, 1, 0, 0, 16_777_216, 0),
+    Access::new(kind::MAILBOX_READ, 0, 0, 0, 0, 0),
+    Access::new(kind::STEP, 0, 0, 0, 0, 0),
+];
+
+fn on_trace(name: &'static str, stdin: Vec<u8>) -> Program {
+    let stdout = text(&stdin);
+    Program {
+        name,
+        stdin,
+        stdout,
+    }
+}
+
+/// stdin: traces one behind the other, each behind its length (4 bytes, least byte first).
+/// stdout: what the replay writes of each, from a fresh card between zeroed memories.
+fn on_traces(name: &'static str, traces: Vec<Vec<u8>>) -> Program {
+    let mut stdin = Vec::new();
+    for trace in &traces {
+        stdin.extend((trace.len() as u32).to_le_bytes());
+        stdin.extend(trace);
+    }
+    Program {
+        name,
+        stdin,
+        stdout: traces.iter().flat_map(|trace| text(trace)).collect(),
+    }
+}
