@@ -19,3 +19,5 @@ pub mod trace;
 pub mod transfer;
 mod vectors;
 pub mod world;
+
+pub use programs::long_trace;

@@ -1,7 +1,7 @@
 //! Writes the files that are compared with, checks that the stored ones are what it would write,
 //! or replays a trace.
 
-use std::io;
+use std::io::{self, Write};
 use std::path::Path;
 use std::process::ExitCode;
 
@@ -17,7 +17,8 @@ fn main() -> ExitCode {
         ["write"] => stored::write(crates).map_err(|error| error.to_string()),
         ["check"] => stored::check(crates),
         ["replay"] => return replayed(),
-        _ => Err("usage: oracle write | oracle check | oracle replay < trace".to_string()),
+        ["trace", records] => return generated(records),
+        _ => Err("usage: oracle write | check | replay < trace | trace RECORDS".to_string()),
     };
     match result {
         Ok(line) => {
@@ -26,6 +27,21 @@ fn main() -> ExitCode {
         }
         Err(line) => {
             eprintln!("{line}");
+            ExitCode::FAILURE
+        }
+    }
+}
+
+/// Writes a trace of so many records to standard output.
+fn generated(records: &str) -> ExitCode {
+    let Ok(records) = records.parse() else {
+        eprintln!("trace: {records}: not a number of records");
+        return ExitCode::FAILURE;
+    };
+    match io::stdout().write_all(&oracle::long_trace(records)) {
+        Ok(()) => ExitCode::SUCCESS,
+        Err(error) => {
+            eprintln!("{error}");
             ExitCode::FAILURE
         }
     }

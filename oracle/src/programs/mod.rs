@@ -7,6 +7,8 @@ mod trace;
 
 use crate::stored::Stored;
 
+pub use replay::long_trace;
+
 /// A program by the name of its crate.
 struct Program {
     name: &'static str,

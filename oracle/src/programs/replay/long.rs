@@ -11,7 +11,8 @@ use crate::rng::Rng;
 use crate::transfer::SHARED_LENGTH;
 
 const SEED: u64 = 500;
-const LENGTH: usize = 80_000;
+/// The records of the stored trace.
+pub const STORED: usize = 80_000;
 
 /// How often a round of the trace is of each kind, in the order of `round`.
 const WEIGHTS: [u32; 5] = [5, 3, 5, 2, 2];
@@ -34,8 +35,8 @@ pub const SCRIPTS: [fn(&mut Builder); 15] = [
     transfers::start_checks,
 ];
 
-/// Reaches every fact that is required of a replay, or panics.
-pub fn accesses() -> Vec<Access> {
+/// So many accesses, which reach every fact that is required of a replay; or panics.
+pub fn accesses(length: usize) -> Vec<Access> {
     let mut coverage = Coverage::default();
     let mut b = Builder::new(bench(), Rng::new(SEED), &mut coverage);
     for script in SCRIPTS {
@@ -44,7 +45,7 @@ pub fn accesses() -> Vec<Access> {
     }
     whole_transfers(&mut b);
     let last = last_reads(&b);
-    while b.entries.len() < LENGTH - last.len() {
+    while b.entries.len() + last.len() < length {
         round(&mut b);
     }
     for access in last {

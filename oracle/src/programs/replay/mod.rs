@@ -16,12 +16,17 @@ const LIMIT: usize = 10_000_000;
 pub fn programs() -> [Program; 3] {
     let programs = [
         on_trace("replay", trace(&WHOLE_CASE)),
-        on_trace("replay_long", trace(&long::accesses())),
+        on_trace("replay_long", long_trace(long::STORED)),
         on_traces("replay_test", short::traces()),
     ];
     let sizes = programs.iter().map(|p| p.stdin.len() + p.stdout.len());
     assert!(sizes.sum::<usize>() < LIMIT);
     programs
+}
+
+/// A trace of so many records, every kind done and refused among them.
+pub fn long_trace(records: usize) -> Vec<u8> {
+    trace(&long::accesses(records))
 }
 
 /// "Whole case: local kind 9 with B 16,777,216; host kind 10; host kind 15."
