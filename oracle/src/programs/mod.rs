@@ -29,5 +29,6 @@ pub fn files() -> Vec<Stored> {
                 Stored::new(path("stdout"), program.stdout),
             ]
         })
+        .chain(replay::lessons::texts())
         .collect()
 }

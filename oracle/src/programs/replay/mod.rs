@@ -1,6 +1,7 @@
 //! Traces, and what the replay writes of them.
 
 mod damaged;
+pub mod lessons;
 mod long;
 mod short;
 
@@ -17,7 +18,7 @@ pub fn programs() -> [Program; 3] {
     let programs = [
         on_trace("replay", trace(&WHOLE_CASE)),
         on_trace("replay_long", long_trace(long::STORED)),
-        on_traces("replay_test", short::traces()),
+        on_traces("replay_test", [short::traces(), lessons::traces()].concat()),
     ];
     let sizes = programs.iter().map(|p| p.stdin.len() + p.stdout.len());
     assert!(sizes.sum::<usize>() < LIMIT);
