@@ -31,3 +31,5 @@ pub mod Trace
 pub mod TraceLaws
 pub mod Text
 pub mod TextLaws
+pub mod Replay
+pub mod ReplayLaws

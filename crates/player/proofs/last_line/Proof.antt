@@ -1,0 +1,23 @@
+use borrow.Author.Needs.{needs}
+use native.Mathlib.Omega.{arith}
+use mathlib.Core.Path.{refl}
+use Rattle.player.proofs.last_line.Statement.{statement}
+use Rattle.player.proofs.last_line.Tie as tie
+use Rattle.player.proofs.last_line.Reads as reads
+use Rattle.player.proofs.last_line.Lts as lts
+use Rattle.report.proofs.put_end.Reads as put-end-reads
+
+put-end-requires : tie.Need-put-end-requires
+put-end-requires c κs = search needs
+
+returns : tie.Need-returns
+returns c = (rw (c .if1 .taken) (record { place = refl; bytes = refl }), omega arith)
+
+same-length : tie.Need-same-length
+same-length c = search needs
+
+returns-2 : tie.Need-returns-2
+returns-2 c = (rw (c .before .before .before .before .if1 .left) (c .before .before .put-end .ensures .0), omega arith)
+
+pub last-line-spec : {M : Type 1} → statement M
+last-line-spec = tie.close (tie.spec put-end-requires returns same-length returns-2)

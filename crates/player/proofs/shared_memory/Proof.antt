@@ -1,0 +1,13 @@
+use mathlib.Core.Path.{refl}
+use Rattle.player.specs.Standings.{zeros}
+use Rattle.player.proofs.shared_memory.Statement.{statement}
+use Rattle.player.proofs.shared_memory.Tie as tie
+use Rattle.player.proofs.shared_memory.Reads as reads
+use Rattle.player.proofs.shared_memory.Lts as lts
+
+returns : tie.Need-returns
+unfolding zeros
+returns c = refl
+
+pub shared-memory-spec : {M : Type 1} → statement M
+shared-memory-spec = tie.close (tie.spec returns)

@@ -1,0 +1,16 @@
+use Rattle.player.specs.Standings.{at-start}
+use borrow.Author.Needs.{needs}
+use Rattle.player.proofs.start.Statement.{statement}
+use Rattle.player.proofs.start.Tie as tie
+use Rattle.player.proofs.start.Reads as reads
+use Rattle.player.proofs.start.Lts as lts
+use Rattle.card.proofs.fresh.Reads as fresh-reads
+
+fresh-requires : tie.Need-fresh-requires
+fresh-requires c κs = search needs
+
+returns : tie.Need-returns
+returns c = at-start (c .before .fresh .result .card) (c .before .fresh .ensures)
+
+pub start-spec : {M : Type 1} → statement M
+start-spec = tie.close (tie.spec fresh-requires returns)
