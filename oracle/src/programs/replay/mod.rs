@@ -6,18 +6,23 @@ mod short;
 
 use crate::access::{kind, Access};
 use crate::replay::text;
-use crate::trace::trace;
+use crate::trace::{trace, RECORD};
 
 use super::Program;
 
+/// The records of all traces together are at least so many.
+const LEAST: usize = 100_000;
 /// What all traces and texts may take together.
 const LIMIT: usize = 10_000_000;
 
-pub fn programs() -> [Program; 3] {
+pub fn programs() -> [Program; 2] {
+    let mut traces = short::traces();
+    traces.extend(damaged::traces());
+    traces.push(trace(&long::accesses()));
+    assert!(traces.iter().map(Vec::len).sum::<usize>() >= LEAST * RECORD);
     let programs = [
         on_trace("replay", trace(&WHOLE_CASE)),
-        on_trace("replay_long", trace(&long::accesses())),
-        on_traces("replay_test", short::traces()),
+        on_traces("replay_test", traces),
     ];
     let sizes = programs.iter().map(|p| p.stdin.len() + p.stdout.len());
     assert!(sizes.sum::<usize>() < LIMIT);
