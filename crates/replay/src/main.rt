@@ -83,7 +83,13 @@ fn main() {
     let mut window = player::window_memory();
     let mut input = input_buffer();
     let mut out = output_buffer();
-    let standing = replay(player::start(), &mut shared, &mut window, &mut input, &mut out);
+    let standing = replay(
+        player::start(),
+        &mut shared,
+        &mut window,
+        &mut input,
+        &mut out,
+    );
     let end = player::last_line(standing.stopped, standing.count, &mut out);
     io::write_all(1, &out[0..end]);
 }

@@ -29,6 +29,15 @@ const CHANGES: [(usize, u8); 9] = [
     (7, 0x80),
 ];
 
+/// Records around the end of a piece, and the byte that changes.
+const BORDER_CHANGES: [(usize, usize); 5] = [
+    (PIECE - 1, 3),
+    (PIECE, 1),
+    (PIECE, 3),
+    (PIECE, 7),
+    (PIECE + 1, 7),
+];
+
 /// Between them they end in every required line, or this panics.
 pub fn traces() -> Vec<Vec<u8>> {
     let few = trace(&random(FEW, SEED));
@@ -104,24 +113,12 @@ fn lost_and_doubled(few: &[u8], traces: &mut Vec<Vec<u8>>) {
 fn borders(traces: &mut Vec<Vec<u8>>) {
     let whole = trace(&random(2 * PIECE + 1, SEED + 1));
     let piece = RECORD * PIECE;
-    for length in [
-        piece - 20,
-        piece - 10,
-        piece - 1,
-        piece,
-        piece + 1,
-        piece + 19,
-        piece + 20,
-        2 * piece,
-        2 * piece + 1,
-    ] {
+    for length in [piece - 10, piece, piece + 1, piece + 20, 2 * piece + 1] {
         traces.push(whole[..length].to_vec());
     }
-    for record in [PIECE - 1, PIECE, PIECE + 1] {
+    for (record, at) in BORDER_CHANGES {
         let rest = &whole[..RECORD * (record + 1)];
-        for change in [(1, 1), (3, 1), (7, 1)] {
-            traces.push(changed(rest, record, &[change]));
-        }
+        traces.push(changed(rest, record, &[(at, 1)]));
     }
 }
 
@@ -135,16 +132,17 @@ fn past_the_last_number(traces: &mut Vec<Vec<u8>>) {
 
 fn assert_ends(traces: &[Vec<u8>]) {
     let ends: BTreeSet<String> = traces.iter().map(|trace| last_line(trace)).collect();
+    let log = |number: u8, records: usize| format!("log {number} at {records}");
     let mut required = Vec::new();
     for number in [refused::MARK, refused::NUMBER, refused::ZERO_BYTE] {
-        let records = (0..FEW).chain([PIECE - 1, PIECE, PIECE + 1]);
-        required.extend(records.map(|record| format!("log {number} at {record}")));
+        required.extend((0..FEW).chain([PIECE]).map(|records| log(number, records)));
     }
+    required.push(log(refused::NUMBER, PIECE - 1));
+    required.push(log(refused::ZERO_BYTE, PIECE + 1));
+    required.push(log(refused::NUMBER, 65_537));
     let short = [0, 1, 2, PIECE - 1, PIECE, 2 * PIECE];
-    required.extend(short.map(|record| format!("log {} at {record}", refused::SHORT)));
-    required.push(format!("log {} at 65537", refused::NUMBER));
-    let whole = [0, 1, 2, PIECE - 1, PIECE, PIECE + 1, 2 * PIECE];
-    required.extend(whole.map(|records| format!("end {records}")));
+    required.extend(short.map(|records| log(refused::SHORT, records)));
+    required.extend([0, 1, 2, PIECE, PIECE + 1].map(|records| format!("end {records}")));
     required.retain(|line| !ends.contains(line));
     assert!(required.is_empty(), "not reached: {required:?}");
 }

@@ -7,19 +7,27 @@ mod short;
 
 use crate::access::{kind, Access};
 use crate::replay::text;
-use crate::trace::trace;
+use crate::trace::{trace, RECORD};
 
 use super::Program;
 
+/// The records of all traces together are at least so many.
+const LEAST: usize = 100_000;
 /// What all traces and texts may take together.
 const LIMIT: usize = 10_000_000;
 
-pub fn programs() -> [Program; 3] {
-    let programs = [
-        on_trace("replay", trace(&WHOLE_CASE)),
-        on_trace("replay_long", long_trace(long::STORED)),
-        on_traces("replay_test", [short::traces(), lessons::traces()].concat()),
-    ];
+pub fn programs() -> [Program; 2] {
+    let long = long_trace(long::STORED);
+    let traces = [
+        vec![trace(&WHOLE_CASE)],
+        short::traces(),
+        damaged::traces(),
+        lessons::traces(),
+    ]
+    .concat();
+    let bytes = long.len() + traces.iter().map(Vec::len).sum::<usize>();
+    assert!(bytes >= LEAST * RECORD);
+    let programs = [on_trace("replay", long), on_traces("replay_test", traces)];
     let sizes = programs.iter().map(|p| p.stdin.len() + p.stdout.len());
     assert!(sizes.sum::<usize>() < LIMIT);
     programs

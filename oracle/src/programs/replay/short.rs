@@ -1,4 +1,4 @@
-//! Traces of a few records, and damaged ones.
+//! Traces of a few records: the whole case, and each script on a fresh card.
 
 use crate::drive::builder::Builder;
 use crate::drive::coverage::Coverage;
@@ -6,19 +6,17 @@ use crate::replay::bench;
 use crate::rng::Rng;
 use crate::trace::trace;
 
-use super::{damaged, long, WHOLE_CASE};
+use super::{long, WHOLE_CASE};
 
 const SEED: u64 = 600;
 
 pub fn traces() -> Vec<Vec<u8>> {
-    let whole = trace(&WHOLE_CASE);
-    let mut traces = vec![whole];
+    let mut traces = vec![trace(&WHOLE_CASE)];
     for (script, number) in long::SCRIPTS.into_iter().zip(0..) {
         let mut coverage = Coverage::default();
         let mut builder = Builder::new(bench(), Rng::new(SEED + number), &mut coverage);
         script(&mut builder);
         traces.push(trace(&builder.accesses()));
     }
-    traces.extend(damaged::traces());
     traces
 }
