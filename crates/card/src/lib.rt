@@ -430,11 +430,13 @@ impl Card {
         requires { ⌜ i < 4 ⌝ }
         ensures { λ r. ⌜ Effected (takenFrom i (fifo (stateOf self) i)) self r ⌝ }
     {
-        let taken = self.fifos[i].take();
+        let mut fifos = self.fifos;
+        let taken = fifos[i].take();
         if taken.some {
             let rest = taken.fifo;
+            fifos[i] = rest;
             let mut card = self;
-            card.fifos[i] = rest;
+            card.fifos = fifos;
             return Outcome {
                 card: card,
                 answer: Answer::Done(taken.entry, 1),
@@ -451,11 +453,13 @@ impl Card {
         requires { ⌜ i < 4 ⌝ }
         ensures { λ r. ⌜ Effected (putInto (sideOf side) i (fifo (stateOf self) i) entry) self r ⌝ }
     {
-        let put = self.fifos[i].put(entry);
+        let mut fifos = self.fifos;
+        let put = fifos[i].put(entry);
         if put.kept {
             let longer = put.fifo;
+            fifos[i] = longer;
             let mut card = self;
-            card.fifos[i] = longer;
+            card.fifos = fifos;
             return Outcome {
                 card: card,
                 answer: Answer::Done(0, 1),

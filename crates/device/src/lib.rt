@@ -4,6 +4,7 @@ ghost use mathlib.Core.List.{List};
 ghost use Prim.Native.Nat.{ℕ};
 ghost use lib.ListN.{length};
 ghost use Rattle.model.specs.Accesses.{fit, access};
+ghost use Rattle.access.specs.declared.Answer.the-variants.{Refused};
 ghost use Rattle.access.specs.Words.{accessOf, answerOf};
 ghost use Rattle.card.specs.Did.{worldOf, outcomeOf};
 use access::Access;
@@ -15,15 +16,17 @@ use card::Outcome;
 fn fits(card: Card, shared: usize, window: usize) -> bool
     ensures { λ r. ⌜ ((m w : List ℕ) → shared ≡ length m → window ≡ length w → r ≡ fit (worldOf card m w)) ⌝ }
 {
-    let fine = card::sound(card);
+    let sound = card::sound(card);
     let settings = card.settings;
-    (fine & (shared == 16384)) & (window == settings.length as usize)
+    (sound & (shared == 16384)) & (window == settings.length as usize)
 }
 
-// "An access lends both memories and gets the new record back by value." A refusal hands back the very record and leaves both memories.
+// "An access lends both memories and gets the new record back by value." A refusal hands back the very record and leaves
+// both memories; what is done is answered by `Done`.
 pub fn access(card: Card, shared: &mut [u8], window: &mut [u8], q: Access) -> Outcome
     ensures { λ r. ⌜ outcomeOf r (now (shared .exit)) (now (window .exit)) ≡ access (worldOf card (now (shared .entry)) (now (window .entry))) (accessOf q) ⌝ }
     ensures { λ r. ⌜ ((answerOf (r .answer) .number ≡ 0 → ⊥) → r .card ≡ card) ⌝ }
+    ensures { λ r. ⌜ (r .answer ≡ Refused 0 → ⊥) ⌝ }
 {
     if !fits(card, shared.len(), window.len()) {
         return Outcome {

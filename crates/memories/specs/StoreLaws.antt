@@ -33,7 +33,7 @@ use Rattle.card.specs.declared.Card.{Card}
 use Rattle.card.specs.declared.Outcome.{Outcome}
 use Rattle.card.specs.Bridge.{settingsAs, transferAs, dmaAs, stateOf, raisedBoth}
 use Rattle.card.specs.BridgeLaws.{settings-is, dma-is}
-use Rattle.card.specs.Did.{worldOf, Did}
+use Rattle.card.specs.Did.{worldOf, Did, done-said}
 use Rattle.memories.specs.Stores.{sharedChecks, windowChecks, MemoriesAfter, Stored, Ended, StepFits}
 
 -- done, with a dword stored in a memory or not
@@ -43,6 +43,7 @@ unfolding does
 stored-did k card q m w r m′ w′ p e = record {
   told = rw (p, e .answer, e .state, e .memories .shared, e .memories .window);
   kept = λ h. absurd (h (ap (λ (x : Answer). answerOf x .number) (e .answer)));
+  said = done-said (e .answer);
 }
 
 -- ADDRESSES

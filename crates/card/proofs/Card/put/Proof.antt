@@ -8,23 +8,23 @@ use Rattle.card.proofs.Card.put.Tie as tie
 mul-put : tie.Need-mul-put
 mul-put c = search needs
 
-element-copy-out-put : tie.Need-element-copy-out-put
-element-copy-out-put c = search needs
+array-copy-out-put : tie.Need-array-copy-out-put
+array-copy-out-put c = search needs
 
 put-requires : tie.Need-put-requires
 put-requires c κs = search needs
 
-mul-longer : tie.Need-mul-longer
-mul-longer c = search needs
+mul-fifos : tie.Need-mul-fifos
+mul-fifos c = search needs
 
-element-set-from-longer : tie.Need-element-set-from-longer
-element-set-from-longer c = search needs
+array-set-from-fifos : tie.Need-array-set-from-fifos
+array-set-from-fifos c = search needs
 
 returns : tie.Need-returns
 returns c =
     let p = c .before .before in
-    let a = p .before .before .args in
-    put-kept (a .t1) (a .i) (sideOf (a .side)) (a .entry) (p .put .result) (p .put .ensures) (c .before .if1 .taken)
+    let a = p .before .before .before .args in
+    put-kept (a .self) (a .i) (sideOf (a .side)) (a .entry) (p .put .result) (p .put .ensures) (c .before .if1 .taken)
 
 lost-event-requires : tie.Need-lost-event-requires
 lost-event-requires c κs = search needs
@@ -36,18 +36,18 @@ returns-2 : tie.Need-returns-2
 returns-2 c =
     let e = c .before .before in
     let p = e .before in
-    let a = p .before .before .args in
-    put-lost (a .t1) (a .i) (sideOf (a .side)) (a .entry) (p .put .result) (c .raise-both .result) _ (p .put .ensures) (e .if1 .left) (c .before .lost-event .ensures) (c .raise-both .ensures)
+    let a = p .before .before .before .args in
+    put-lost (a .self) (a .i) (sideOf (a .side)) (a .entry) (p .put .result) (c .raise-both .result) _ (p .put .ensures) (e .if1 .left) (c .before .lost-event .ensures) (c .raise-both .ensures)
 
 pub put-spec : {M : Type 1} → statement M
 put-spec =
     tie.close
     (tie.spec
     mul-put
-    element-copy-out-put
+    array-copy-out-put
     put-requires
-    mul-longer
-    element-set-from-longer
+    mul-fifos
+    array-set-from-fifos
     returns
     lost-event-requires
     raise-both-requires
