@@ -55,7 +55,7 @@ fn replay_chunk(
 }
 
 // Chunk after chunk, from the fresh card and zeroed memories.
-fn replay(
+fn replay_input(
     start: Standing,
     shared: &mut [u8],
     window: &mut [u8],
@@ -83,7 +83,13 @@ fn main() {
     let mut window = player::window_memory();
     let mut input = input_buffer();
     let mut out = output_buffer();
-    let standing = replay(player::start(), &mut shared, &mut window, &mut input, &mut out);
+    let standing = replay_input(
+        player::start(),
+        &mut shared,
+        &mut window,
+        &mut input,
+        &mut out,
+    );
     let end = player::last_line(standing.stopped, standing.count, &mut out);
     io::write_all(1, &out[0..end]);
 }
