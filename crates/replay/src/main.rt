@@ -55,7 +55,7 @@ fn replay_chunk(
 }
 
 // Chunk after chunk, from the fresh card and zeroed memories.
-fn replay(
+fn replay_input(
     start: Standing,
     shared: &mut [u8],
     window: &mut [u8],
@@ -83,7 +83,7 @@ fn main() {
     let mut window = player::window_memory();
     let mut input = input_buffer();
     let mut out = output_buffer();
-    let standing = replay(
+    let standing = replay_input(
         player::start(),
         &mut shared,
         &mut window,

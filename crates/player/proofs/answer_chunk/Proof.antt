@@ -1,23 +1,17 @@
+-- A turn of the loop answers one record: what is left of the chunk's text and standing is the replay of the bytes from `at` on.
+-- The buffer has 32 bytes for each record that is left, and the count stays below that of all records.
 use mathlib.Core.Path.{_≡_, refl, _∙_}
 use Prim.Native.Nat.{_+_, _-_, _*_, _/_, _≤_}
 use native.Mathlib.Omega.{arith}
 use borrow.Author.Needs.{needs}
 use lib.ListN.{length}
-use Rattle.model.specs.ReplayLaws.{replay-stopped}
 use Rattle.model.specs.Replay.{recordsIn, replay}
+use Rattle.model.specs.ReplayLaws.{replay-stopped}
 use Rattle.card.specs.Did.{outcomeOf}
 use Rattle.player.specs.Standings.{standingOf, going}
 use Rattle.player.specs.Progress.{Left, all-left, none-left, answered-left, refused-left, read-refused, from}
 use Rattle.player.proofs.answer_chunk.Statement.{statement}
 use Rattle.player.proofs.answer_chunk.Tie as tie
-use Rattle.player.proofs.answer_chunk.Reads as reads
-use Rattle.player.proofs.answer_chunk.Lts as lts
-use Rattle.device.proofs.access.Reads as access-reads
-use Rattle.player.proofs.put_answer.Reads as put-answer-reads
-use Rattle.player.proofs.refusal_number.Reads as refusal-number-reads
-use Rattle.report.proofs.put_log.Reads as put-log-reads
-use Rattle.trace.proofs.next_number.Reads as next-number-reads
-use Rattle.trace.proofs.read_record.Reads as read-record-reads
 
 abbrev Inv-loop : tie.InvT-loop
 Inv-loop shared₀ window₀ input out₀ card₀ expected₀ count₀ end₀ at₀ shared window out card expected count end at =
@@ -77,13 +71,13 @@ same-length-3 c = search needs
 returns-2 : tie.Need-returns-2 Inv-loop μ-loop
 returns-2 c =
     let inside = c .before .before .before .before .before .before .before .before .before in
-    let now = inside .before .loop in
-    let read = rw (from (inside .before .before .before .before .before .before .before .before .args .input .now) (now .at)) at (c .before .before .before .before .before .before .before .read-record .ensures) in
-    let refused = read-refused (c .before .before .before .before .before .enum-told .given .1) (c .before .before .before .refusal-number .ensures) ∙ read in (
-      rw (inside .before .before .before .if1 .left) (refused-left (going (now .card) (now .expected) (now .count) (now .shared) (now .window)) refl (inside .loop-test .taken) (c .before .before .before .refusal-number .result) refused
-          (c .before .before .put-log .ensures .0) (now .inv .5)),
-      (omega arith, omega arith),
-    )
+    let l = inside .before .loop in
+    let now = going (l .card) (l .expected) (l .count) (l .shared) (l .window) in
+    let read = rw (from (inside .before .before .before .before .before .before .before .before .args .input .now) (l .at)) at (c .before .before .before .before .before .before .before .read-record .ensures) in
+    let number = c .before .before .before .refusal-number in
+    let refused = read-refused (c .before .before .before .before .before .enum-told .given .1) (number .ensures) ∙ read in
+    let played = refused-left now refl (inside .loop-test .taken) (number .result) refused (c .before .before .put-log .ensures .0) (l .inv .5) in
+    (rw (inside .before .before .before .if1 .left) played, (omega arith, omega arith))
 
 access-requires : tie.Need-access-requires Inv-loop μ-loop
 access-requires c κs = search needs
@@ -95,10 +89,15 @@ next-number-requires : tie.Need-next-number-requires Inv-loop μ-loop
 next-number-requires c κs = search needs
 
 add-count : tie.Need-add-count Inv-loop μ-loop
-add-count c = let inside = c .before .before .before .before .before .before .before .before .before .before .before .before .before .before .before .before .before .before in omega (arith, inside .loop-test .taken, inside .before .loop .inv .4, inside .before .before .before .before .before .before .before .before .pre .1)
+add-count c =
+    let inside = c .before .before .before .before .before .before .before .before .before .before .before .before .before .before .before .before .before .before in
+    omega (arith, inside .loop-test .taken, inside .before .loop .inv .4, inside .before .before .before .before .before .before .before .before .pre .1)
 
 add-at : tie.Need-add-at Inv-loop μ-loop
-add-at c = let inside = c .before .before .before .before .before .before .before .before .before .before .before .before .before .before .before .before .before .before in omega (arith, inside .loop-test .taken, inside .before .before .before .before .before .before .before .before .pre .0, inside .before .before .before .before .before .before .before .before .good)
+add-at c =
+    let inside = c .before .before .before .before .before .before .before .before .before .before .before .before .before .before .before .before .before .before in
+    let entry = inside .before .before .before .before .before .before .before .before in
+    omega (arith, inside .loop-test .taken, entry .pre .0, entry .good)
 
 loop-less : tie.Need-loop-less Inv-loop μ-loop
 loop-less c = search needs
@@ -106,16 +105,13 @@ loop-less c = search needs
 loop-again : tie.Need-loop-again Inv-loop μ-loop
 loop-again c =
     let inside = c .before .before .before .before .before .before .before .before .before .before .before .before .before .before .before .before .before .before in
-    let now = inside .before .loop in
-    let answer = c .before .before .before .before .before .before .before .before .before .before .access in
-    let read = rw (c .before .before .before .before .before .before .before .before .before .before .before .before .before .before .read .given .1, from (inside .before .before .before .before .before .before .before .before .args .input .now) (now .at)) at (c .before .before .before .before .before .before .before .before .before .before .before .before .before .before .before .before .read-record .ensures) in (
-      search needs,
-      search needs,
-      search needs,
-      omega arith,
-      omega arith,
-      rw (c .next-number .ensures) (answered-left (going (now .card) (now .expected) (now .count) (now .shared) (now .window)) refl (inside .loop-test .taken) (outcomeOf (answer .result) _ _) read (answer .ensures .0) (c .before .before .before .before .put-answer .ensures .0) (now .inv .5)),
-    )
+    let l = inside .before .loop in
+    let access = c .before .before .before .before .before .before .before .before .before .before .access in
+    let read = rw (c .before .before .before .before .before .before .before .before .before .before .before .before .before .before .read .given .1, from (inside .before .before .before .before .before .before .before .before .args .input .now) (l .at)) at (c .before .before .before .before .before .before .before .before .before .before .before .before .before .before .before .before .read-record .ensures) in
+    let now = going (l .card) (l .expected) (l .count) (l .shared) (l .window) in
+    let left = answered-left now refl (inside .loop-test .taken) (outcomeOf (access .result) _ _) read (access .ensures .0) (c .before .before .before .before .put-answer .ensures .0) (l .inv .5) in
+    let line = c .before .before .before .before .put-answer .ensures .1 in
+    (search needs, search needs, search needs, omega (arith, line, inside .loop-test .taken, l .inv .3), omega (arith, inside .loop-test .taken, l .inv .4), rw (c .next-number .ensures) left)
 
 same-length-4 : tie.Need-same-length-4 Inv-loop μ-loop
 same-length-4 c = search needs

@@ -1,11 +1,9 @@
-use borrow.Author.Needs.{needs}
-use native.Mathlib.Omega.{arith}
+-- `last_line` meets its contract: nothing is stored where the replay was stopped, else the line of the count.
 use mathlib.Core.Path.{refl}
+use native.Mathlib.Omega.{arith}
+use borrow.Author.Needs.{needs}
 use Rattle.player.proofs.last_line.Statement.{statement}
 use Rattle.player.proofs.last_line.Tie as tie
-use Rattle.player.proofs.last_line.Reads as reads
-use Rattle.player.proofs.last_line.Lts as lts
-use Rattle.report.proofs.put_end.Reads as put-end-reads
 
 put-end-requires : tie.Need-put-end-requires
 put-end-requires c κs = search needs

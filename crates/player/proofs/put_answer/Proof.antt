@@ -1,10 +1,8 @@
-use borrow.Author.Needs.{needs}
+-- `put_answer` meets its contract: each case of the answer has the number, V and X that its definition gives.
 use native.Mathlib.Omega.{arith}
+use borrow.Author.Needs.{needs}
 use Rattle.player.proofs.put_answer.Statement.{statement}
 use Rattle.player.proofs.put_answer.Tie as tie
-use Rattle.player.proofs.put_answer.Reads as reads
-use Rattle.player.proofs.put_answer.Lts as lts
-use Rattle.report.proofs.put_line.Reads as put-line-reads
 
 enum-known-answer : tie.Need-enum-known-answer
 enum-known-answer c = search needs

@@ -1,10 +1,8 @@
-use Rattle.player.specs.Standings.{at-start}
+-- `start` meets its contract: the card is the fresh one of the replay's settings.
 use borrow.Author.Needs.{needs}
+use Rattle.player.specs.Standings.{at-start}
 use Rattle.player.proofs.start.Statement.{statement}
 use Rattle.player.proofs.start.Tie as tie
-use Rattle.player.proofs.start.Reads as reads
-use Rattle.player.proofs.start.Lts as lts
-use Rattle.card.proofs.fresh.Reads as fresh-reads
 
 fresh-requires : tie.Need-fresh-requires
 fresh-requires c κs = search needs

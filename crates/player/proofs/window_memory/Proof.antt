@@ -1,9 +1,8 @@
+-- `window_memory` meets its contract by computation.
 use mathlib.Core.Path.{refl}
 use Rattle.player.specs.Standings.{zeros}
 use Rattle.player.proofs.window_memory.Statement.{statement}
 use Rattle.player.proofs.window_memory.Tie as tie
-use Rattle.player.proofs.window_memory.Reads as reads
-use Rattle.player.proofs.window_memory.Lts as lts
 
 returns : tie.Need-returns
 unfolding zeros

@@ -1,16 +1,7 @@
+-- `main` is safe, and starts the replay from the fresh card and zeroed memories.
 use borrow.Author.Needs.{needs}
 use Rattle.replay.proofs.main.Statement.{statement}
 use Rattle.replay.proofs.main.Tie as tie
-use Rattle.replay.proofs.main.Reads as reads
-use Rattle.replay.proofs.main.Lts as lts
-use Rattle.io.proofs.write_all.Reads as write-all-reads
-use Rattle.player.proofs.last_line.Reads as last-line-reads
-use Rattle.player.proofs.shared_memory.Reads as shared-memory-reads
-use Rattle.player.proofs.start.Reads as start-reads
-use Rattle.player.proofs.window_memory.Reads as window-memory-reads
-use Rattle.replay.proofs.input_buffer.Reads as input-buffer-reads
-use Rattle.replay.proofs.output_buffer.Reads as output-buffer-reads
-use Rattle.replay.proofs.replay.Reads as replay-reads
 
 shared-memory-requires : tie.Need-shared-memory-requires
 shared-memory-requires c κs = search needs
@@ -27,20 +18,24 @@ output-buffer-requires c κs = search needs
 start-requires : tie.Need-start-requires
 start-requires c κs = search needs
 
-slice-aggregate-replay : tie.Need-slice-aggregate-replay
-slice-aggregate-replay c = search needs
+slice-aggregate-replay-input : tie.Need-slice-aggregate-replay-input
+slice-aggregate-replay-input c = search needs
 
-slice-aggregate-replay-2 : tie.Need-slice-aggregate-replay-2
-slice-aggregate-replay-2 c = search needs
+slice-aggregate-replay-input-2 : tie.Need-slice-aggregate-replay-input-2
+slice-aggregate-replay-input-2 c = search needs
 
-slice-aggregate-replay-3 : tie.Need-slice-aggregate-replay-3
-slice-aggregate-replay-3 c = search needs
+slice-aggregate-replay-input-3 : tie.Need-slice-aggregate-replay-input-3
+slice-aggregate-replay-input-3 c = search needs
 
-slice-aggregate-replay-4 : tie.Need-slice-aggregate-replay-4
-slice-aggregate-replay-4 c = search needs
+slice-aggregate-replay-input-4 : tie.Need-slice-aggregate-replay-input-4
+slice-aggregate-replay-input-4 c = search needs
 
-replay-requires : tie.Need-replay-requires
-replay-requires c κs = (rw (c .before .before .before .before .before .before .before .before .shared-memory .ensures, c .before .before .before .before .before .before .before .window-memory .ensures) (c .before .before .before .before .start .ensures), search needs)
+replay-input-requires : tie.Need-replay-input-requires
+replay-input-requires c κs =
+    let started = c .before .before .before .before in
+    let window = started .before .before .before .window-memory .ensures in
+    let shared = started .before .before .before .before .shared-memory .ensures in
+    (rw (shared, window) (started .start .ensures), search needs)
 
 slice-aggregate-last-line : tie.Need-slice-aggregate-last-line
 slice-aggregate-last-line c = search needs
@@ -72,11 +67,11 @@ main-spec =
     input-buffer-requires
     output-buffer-requires
     start-requires
-    slice-aggregate-replay
-    slice-aggregate-replay-2
-    slice-aggregate-replay-3
-    slice-aggregate-replay-4
-    replay-requires
+    slice-aggregate-replay-input
+    slice-aggregate-replay-input-2
+    slice-aggregate-replay-input-3
+    slice-aggregate-replay-input-4
+    replay-input-requires
     slice-aggregate-last-line
     last-line-requires
     sub-write-all

@@ -1,12 +1,8 @@
+-- `replay_chunk` meets its contract: what is read fits the input buffer, so it has at most 3,276 records.
 use native.Mathlib.Omega.{arith}
 use borrow.Author.Needs.{needs}
 use Rattle.replay.proofs.replay_chunk.Statement.{statement}
 use Rattle.replay.proofs.replay_chunk.Tie as tie
-use Rattle.replay.proofs.replay_chunk.Reads as reads
-use Rattle.replay.proofs.replay_chunk.Lts as lts
-use Rattle.io.proofs.read_full.Reads as read-full-reads
-use Rattle.io.proofs.write_all.Reads as write-all-reads
-use Rattle.player.proofs.answer_chunk.Reads as answer-chunk-reads
 
 read-full-requires : tie.Need-read-full-requires
 read-full-requires c κs = search needs
@@ -48,7 +44,10 @@ same-length-4 : tie.Need-same-length-4
 same-length-4 c = search needs
 
 returns : tie.Need-returns
-returns c = omega (arith, c .before .before .before .before .before .before .before .before .before .before .before .answer-chunk .ensures .1 .1, c .before .before .before .before .before .before .before .before .before .before .before .before .before .before .before .before .before .before .before .read-full .ensures, c .before .before .before .before .before .before .before .before .before .before .before .before .before .before .before .before .before .before .input .given, c .before .before .before .before .before .before .before .before .before .before .before .before .before .before .before .before .before .before .before .before .before .before .before .before .before .pre .0)
+returns c =
+    let chunk = c .before .before .before .before .before .before .before .before .before .before .before in
+    let input = chunk .before .before .before .before .before .before .before in
+    omega (arith, chunk .answer-chunk .ensures .1 .1, input .input .given, input .before .read-full .ensures, input .before .before .before .before .before .before .before .pre .0)
 
 pub replay-chunk-spec : {M : Type 1} → statement M
 replay-chunk-spec =

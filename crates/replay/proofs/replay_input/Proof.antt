@@ -1,14 +1,12 @@
-use Rattle.model.specs.Replay.{Standing}
+-- `replay_input` is safe and ends: the chunks that are left fall, and their records still fit the count.
 use mathlib.Core.Path.{_≡_, refl, ap}
 use Prim.Native.Nat.{_+_, _*_, _^_, _<_}
 use native.Mathlib.Omega.{arith}
 use borrow.Author.Needs.{needs}
 use lib.ListN.{length}
-use Rattle.replay.proofs.replay.Statement.{statement}
-use Rattle.replay.proofs.replay.Tie as tie
-use Rattle.replay.proofs.replay.Reads as reads
-use Rattle.replay.proofs.replay.Lts as lts
-use Rattle.replay.proofs.replay_chunk.Reads as replay-chunk-reads
+use Rattle.model.specs.Replay.{Standing}
+use Rattle.replay.proofs.replay_input.Statement.{statement}
+use Rattle.replay.proofs.replay_input.Tie as tie
 
 abbrev Inv-loop : tie.InvT-loop
 Inv-loop shared₀ window₀ input₀ out₀ standing₀ chunks₀ shared window input out standing chunks =
@@ -66,8 +64,8 @@ same-length-8 c = search needs
 returns-2 : tie.Need-returns-2 Inv-loop μ-loop
 returns-2 c = search needs
 
-pub replay-spec : {M : Type 1} → statement M
-replay-spec =
+pub replay-input-spec : {M : Type 1} → statement M
+replay-input-spec =
     tie.close
     (tie.spec
     Inv-loop
