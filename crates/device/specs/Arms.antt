@@ -19,20 +19,20 @@ use Rattle.card.specs.Bridge.{stateOf}
 use Rattle.card.specs.Did.{worldOf, outcomeOf, Did, refusalOf}
 
 abbrev pub Accessed : Card → Access → (m w : List ℕ) → Outcome → (m′ w′ : List ℕ) → Type 0
-Accessed card q m w r m′ w′ = (outcomeOf r m′ w′ ≡ access (worldOf card m w) (accessOf q)) × ((answerOf (r .answer) .number ≡ 0 → ⊥) → r .card ≡ card) × (r .answer ≡ Refused 0 → ⊥)
+Accessed card q m w r m′ w′ = (outcomeOf r m′ w′ ≡ access (worldOf card m w) (accessOf q)) × (((answerOf (r .answer) .number ≡ 0 → ⊥) → r .card ≡ card) × (r .answer ≡ Refused 0 → ⊥))
 
 module _ (card : Card) (q : Access) (m w : List ℕ) where
   pub arm : (n : ℕ) (r : Outcome) (m′ w′ : List ℕ) → fit (worldOf card m w) ≡ true → above 1 (q .side) ≡ false → above 16 n ≡ false → q .kind ≡ n → Did (kindOf n) card q m w r m′ w′ → Accessed card q m w r m′ w′
-  arm n r m′ w′ h k l p d = (d .told ∙ sym (kind-is n (worldOf card m w) (accessOf q) h k l p), d .kept, d .said)
+  arm n r m′ w′ h k l p d = (d .told ∙ sym (kind-is n (worldOf card m w) (accessOf q) h k l p), (d .kept, d .said))
 
   pub unfit-arm : fit (worldOf card m w) ≡ false → Accessed card q m w (record { card = card; answer = Refused 1 }) m w
-  unfit-arm h = (sym (unfit-is (worldOf card m w) (accessOf q) h), λ _. refl, λ e. let z : _≡_ {A = ℕ} 1 0 = ap refusalOf e in omega arith)
+  unfit-arm h = (sym (unfit-is (worldOf card m w) (accessOf q) h), (λ _. refl, λ e. let z : _≡_ {A = ℕ} 1 0 = ap refusalOf e in omega arith))
 
   pub side-arm : fit (worldOf card m w) ≡ true → above 1 (q .side) ≡ true → Accessed card q m w (record { card = card; answer = Refused 2 }) m w
-  side-arm h k = (sym (no-side-is (worldOf card m w) (accessOf q) h k), λ _. refl, λ e. let z : _≡_ {A = ℕ} 2 0 = ap refusalOf e in omega arith)
+  side-arm h k = (sym (no-side-is (worldOf card m w) (accessOf q) h k), (λ _. refl, λ e. let z : _≡_ {A = ℕ} 2 0 = ap refusalOf e in omega arith))
 
   pub kind-arm : fit (worldOf card m w) ≡ true → above 16 (q .kind) ≡ true → Accessed card q m w (record { card = card; answer = Refused 2 }) m w
-  kind-arm h k = (sym (no-kind-is (worldOf card m w) (accessOf q) h k), λ _. refl, λ e. let z : _≡_ {A = ℕ} 2 0 = ap refusalOf e in omega arith)
+  kind-arm h k = (sym (no-kind-is (worldOf card m w) (accessOf q) h k), (λ _. refl, λ e. let z : _≡_ {A = ℕ} 2 0 = ap refusalOf e in omega arith))
 
 -- what a fit card gives
 module _ (card : Card) (m w : List ℕ) where
