@@ -20,4 +20,4 @@ pub mod transfer;
 mod vectors;
 pub mod world;
 
-pub use programs::long_trace;
+pub use programs::{long_trace, FEWEST};

@@ -1,11 +1,11 @@
 //! Writes the files that are compared with, checks that the stored ones are what it would write,
-//! or replays a trace.
+//! replays a trace, or writes one.
 
 use std::io::{self, Write};
 use std::path::Path;
 use std::process::ExitCode;
 
-use oracle::{replay, stored};
+use oracle::{long_trace, replay, stored, FEWEST};
 
 /// Where the crates stand, seen from this one.
 const CRATES: &str = concat!(env!("CARGO_MANIFEST_DIR"), "/../crates");
@@ -34,11 +34,11 @@ fn main() -> ExitCode {
 
 /// Writes a trace of so many records to standard output.
 fn generated(records: &str) -> ExitCode {
-    let Ok(records) = records.parse() else {
-        eprintln!("trace: {records}: not a number of records");
+    let Some(records) = records.parse().ok().filter(|number| *number >= FEWEST) else {
+        eprintln!("trace: {records}: not a number of records, at least {FEWEST}");
         return ExitCode::FAILURE;
     };
-    match io::stdout().write_all(&oracle::long_trace(records)) {
+    match io::stdout().write_all(&long_trace(records)) {
         Ok(()) => ExitCode::SUCCESS,
         Err(error) => {
             eprintln!("{error}");

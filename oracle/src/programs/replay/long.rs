@@ -13,6 +13,10 @@ use crate::transfer::SHARED_LENGTH;
 const SEED: u64 = 500;
 /// The records of the stored trace.
 pub const STORED: usize = 80_000;
+/// The fewest records: their numbers start again at 0.
+pub const FEWEST: usize = 70_000;
+/// No round has more accesses: a script may step the largest transfer to its end.
+const LONGEST_ROUND: usize = 5000;
 
 /// How often a round of the trace is of each kind, in the order of `round`.
 const WEIGHTS: [u32; 5] = [5, 3, 5, 2, 2];
@@ -36,7 +40,8 @@ pub const SCRIPTS: [fn(&mut Builder); 15] = [
 ];
 
 /// So many accesses, which reach every fact that is required of a replay; or panics.
-pub fn accesses(length: usize) -> Vec<Access> {
+pub fn accesses(count: usize) -> Vec<Access> {
+    assert!(count >= FEWEST);
     let mut coverage = Coverage::default();
     let mut b = Builder::new(bench(), Rng::new(SEED), &mut coverage);
     for script in SCRIPTS {
@@ -45,16 +50,20 @@ pub fn accesses(length: usize) -> Vec<Access> {
     }
     whole_transfers(&mut b);
     let last = last_reads(&b);
-    while b.entries.len() + last.len() < length {
+    let until = count - last.len();
+    while b.entries.len() + LONGEST_ROUND < until {
         round(&mut b);
+    }
+    while b.entries.len() < until {
+        rarely_reset(&mut b);
     }
     for access in last {
         b.access(access);
     }
     let accesses = b.accesses();
+    assert_eq!(accesses.len(), count);
     let missing = coverage.missing(required::of_replay());
     assert!(missing.is_empty(), "not reached: {missing:#?}");
-    assert!(accesses.len() > usize::from(u16::MAX) + 1);
     accesses
 }
 

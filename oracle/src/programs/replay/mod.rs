@@ -11,6 +11,8 @@ use crate::trace::{trace, RECORD};
 
 use super::Program;
 
+pub use long::FEWEST;
+
 /// The records of all traces together are at least so many.
 const LEAST: usize = 100_000;
 /// What all traces and texts may take together.
@@ -18,13 +20,7 @@ const LIMIT: usize = 10_000_000;
 
 pub fn programs() -> [Program; 2] {
     let long = long_trace(long::STORED);
-    let traces = [
-        vec![trace(&WHOLE_CASE)],
-        short::traces(),
-        damaged::traces(),
-        lessons::traces(),
-    ]
-    .concat();
+    let traces = [short::traces(), damaged::traces(), lessons::traces()].concat();
     let bytes = long.len() + traces.iter().map(Vec::len).sum::<usize>();
     assert!(bytes >= LEAST * RECORD);
     let programs = [on_trace("replay", long), on_traces("replay_test", traces)];
@@ -33,7 +29,7 @@ pub fn programs() -> [Program; 2] {
     programs
 }
 
-/// A trace of so many records, every kind done and refused among them.
+/// A trace of so many records, at least `FEWEST`, every kind done and refused among them.
 pub fn long_trace(records: usize) -> Vec<u8> {
     trace(&long::accesses(records))
 }
