@@ -154,7 +154,7 @@ fn flags_sound(flags: [Flags; 4]) -> bool
     f0.sound() & (f1.sound() & (f2.sound() & f3.sound()))
 }
 
-// Causes 7, 8 and 9 of a transfer: a start, a sound record and a request for a source share them.
+// Causes 7, 8 and 9 of a transfer, as a start and a sound record share them.
 pub fn transfer_refusal(transfer: Transfer) -> u8
     ensures { λ r. ⌜ r ≡ refusal (transferChecks (transferAs transfer)) ⌝ }
 {
