@@ -4,6 +4,8 @@ use mathlib.Core.Bool.{Bool, true, false}
 use mathlib.Core.List.{List, [], _∷_, _++_}
 use Prim.Native.Nat.{ℕ, zero, suc, _≤_, _<_}
 use native.Mathlib.Omega.{arith}
+use lib.Dec.{eqb}
+use borrow.Author.Tests.{ne-eqb}
 use Rattle.model.specs.Choice.{if_then_else_}
 use Rattle.model.specs.Checks.{Check, refusal, Holds, here, there, Smallest}
 use Rattle.model.specs.TestLaws.{no-both}
@@ -53,3 +55,13 @@ passed n z (c ∷ cs) a h = by (c .cause) h (λ e. passed (c .number) (let l = a
 pub pass-refusal : (cs : List Check) → Pass cs → refusal cs ≡ 0
 pass-refusal [] p = refl
 pass-refusal (c ∷ cs) p = rw (p .0) (pass-refusal cs (p .1))
+
+-- Of two rows one after the other, the first refuses where it refuses at all. Only its numbers must differ from 0.
+pub refusal-append : (n : ℕ) → 0 < n → (cs ds : List Check) → Ascending n cs → refusal (cs ++ ds) ≡ (if eqb (refusal cs) 0 then refusal ds else refusal cs)
+refusal-append n z [] ds a = refl
+refusal-append n z (c ∷ cs) ds a = by (c .cause) (refusal-append (c .number) (let l = a .0 in omega arith) cs ds (a .1))
+  where
+    by : (b : Bool) → refusal (cs ++ ds) ≡ (if eqb (refusal cs) 0 then refusal ds else refusal cs) →
+        (if b then c .number else refusal (cs ++ ds)) ≡ (if eqb (if b then c .number else refusal cs) 0 then refusal ds else (if b then c .number else refusal cs))
+    by true e = rw (ne-eqb (c .number) 0 (λ k. let l = a .0 in omega arith))
+    by false e = e

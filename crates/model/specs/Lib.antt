@@ -15,6 +15,7 @@ pub mod Source
 pub mod Pins
 pub mod TestLaws
 pub mod CheckLaws
+pub mod CauseLaws
 pub mod LaneLaws
 pub mod EventLaws
 pub mod KindNumbers
