@@ -1,14 +1,10 @@
--- What the operations on sets say of a set of one event: it is inserted, and contained, as in the model.
+-- What `contains` says of a set of one event: it is in where the bit at its position is 1.
 use mathlib.Core.Path.{_≡_, refl, ap, sym, _∙_}
 use mathlib.Core.Bool.{Bool, true, false}
 use Prim.Native.Nat.{ℕ}
-use lib.Bits.{bitOr}
 use borrow.Author.Tests.{eqb-true, eq-eqb}
-use Rattle.model.specs.Events.{Event, position, bit, mask, insert, within}
+use Rattle.model.specs.Events.{Event, position, bit, mask, within}
 use Rattle.model.specs.EventLaws.{bit-power, within-bit, bits-within}
-
-pub insert-one : (set : ℕ) (e : Event) → bitOr set (mask e) ≡ insert set e
-insert-one set e = refl
 
 pub contains-one : (set : ℕ) (e : Event) → within (mask e) set ≡ bit (position e) set
 contains-one set e = by (within (mask e) set) (bit (position e) set) refl refl

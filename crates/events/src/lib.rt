@@ -56,14 +56,14 @@ impl EventSet {
     }
 
     // the events that are in both
-    pub fn common(self, events: EventSet) -> EventSet
+    fn common(self, events: EventSet) -> EventSet
         ensures { λ r. ⌜ r .0 ≡ common (self .0) (events .0) ⌝ }
     {
         EventSet(self.0 & events.0)
     }
 
     // some event is in both
-    pub fn meets(self, events: EventSet) -> bool
+    fn meets(self, events: EventSet) -> bool
         ensures { λ r. ⌜ r ≡ not (eqb (common (self .0) (events .0)) 0) ⌝ }
     {
         self.0 & events.0 != 0
@@ -78,7 +78,7 @@ impl EventSet {
 }
 
 // The events whose status a side's register stores: not bits 6 and 7.
-pub fn stored(side: u8) -> EventSet
+fn stored_mask(side: u8) -> EventSet
     ensures { λ r. ⌜ r .0 ≡ storedMask (sideOf side) ⌝ }
 {
     let both = LOCAL_OVERFLOW
@@ -95,10 +95,10 @@ pub fn stored(side: u8) -> EventSet
 }
 
 // "Enable bits exist for that side": those that follow a FIFO, and those stored.
-pub fn enabled(side: u8) -> EventSet
+fn enable_mask(side: u8) -> EventSet
     ensures { λ r. ⌜ r .0 ≡ enableMask (sideOf side) ⌝ }
 {
-    stored(side).insert(OUTBOUND_POST).insert(INBOUND_POST)
+    stored_mask(side).insert(OUTBOUND_POST).insert(INBOUND_POST)
 }
 
 // An interrupt register: the enables, and the event status that is stored.
@@ -134,7 +134,7 @@ impl Register {
     {
         let status = self.status;
         Register {
-            enables: EventSet(value >> 16).common(enabled(side)),
+            enables: EventSet(value >> 16).common(enable_mask(side)),
             status: status.remove(EventSet(value)),
         }
     }
@@ -163,6 +163,6 @@ impl Register {
     {
         let enables = self.enables;
         let status = self.status;
-        stored(side).contains(status) & enabled(side).contains(enables)
+        stored_mask(side).contains(status) & enable_mask(side).contains(enables)
     }
 }

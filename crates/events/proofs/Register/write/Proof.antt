@@ -3,8 +3,8 @@ use borrow.Author.Needs.{needs}
 use Rattle.events.proofs.Register.write.Statement.{statement}
 use Rattle.events.proofs.Register.write.Tie as tie
 
-enabled-requires : tie.Need-enabled-requires
-enabled-requires c κs = search needs
+enable-mask-requires : tie.Need-enable-mask-requires
+enable-mask-requires c κs = search needs
 
 common-requires : tie.Need-common-requires
 common-requires c κs = search needs
@@ -13,7 +13,7 @@ remove-requires : tie.Need-remove-requires
 remove-requires c κs = search needs
 
 returns : tie.Need-returns
-returns c = rw (c .remove .ensures, c .before .common .ensures, c .before .before .enabled .ensures)
+returns c = rw (c .remove .ensures, c .before .common .ensures, c .before .before .enable-mask .ensures)
 
 pub write-spec : {M : Type 1} → statement M
-write-spec = tie.close (tie.spec enabled-requires common-requires remove-requires returns)
+write-spec = tie.close (tie.spec enable-mask-requires common-requires remove-requires returns)

@@ -1,8 +1,8 @@
--- `events::stored` meets its contract: either side's mask is the constants joined.
+-- `events::stored_mask` meets its contract: either side's mask is the constants joined.
 use Rattle.events.specs.SideNumbers.{side-host, side-local}
 use borrow.Author.Needs.{needs}
-use Rattle.events.proofs.stored.Statement.{statement}
-use Rattle.events.proofs.stored.Tie as tie
+use Rattle.events.proofs.stored_mask.Statement.{statement}
+use Rattle.events.proofs.stored_mask.Tie as tie
 
 insert-requires : tie.Need-insert-requires
 insert-requires c κs = search needs
@@ -34,8 +34,8 @@ returns-2 c =
     let three = five .before .before in
     rw (side-local _ (c .if1 .left), five .insert5 .ensures, five .before .insert4 .ensures, three .insert3 .ensures, three .before .insert2 .ensures, three .before .before .insert .ensures)
 
-pub stored-spec : {M : Type 1} → statement M
-stored-spec =
+pub stored-mask-spec : {M : Type 1} → statement M
+stored-mask-spec =
     tie.close
     (tie.spec
     insert-requires
