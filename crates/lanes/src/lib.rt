@@ -6,8 +6,8 @@ ghost use Rattle.model.specs.Choice.{if_then_else_};
 ghost use Rattle.model.specs.Lanes.{dwordOf, bytesOf, enabled, readDword, writeDword};
 ghost use Rattle.lanes.specs.Merge.{merge};
 
-// A byte below a number that has room for it.
-fn below(byte: u8, high: u32) -> u32
+// A number that has room for one byte more, with that byte below it.
+fn with_low_byte(byte: u8, high: u32) -> u32
     requires { ⌜ high < 16777216 ⌝ }
     ensures { λ r. ⌜ r ≡ byte + 256 * high ⌝ }
     ensures { λ r. ⌜ r < 256 + 256 * high ⌝ }
@@ -19,9 +19,12 @@ fn below(byte: u8, high: u32) -> u32
 pub fn dword_of(bytes: [u8; 4]) -> u32
     ensures { λ r. ⌜ r ≡ dwordOf bytes ⌝ }
 {
-    below(
+    with_low_byte(
         bytes[0],
-        below(bytes[1], below(bytes[2], below(bytes[3], 0))),
+        with_low_byte(
+            bytes[1],
+            with_low_byte(bytes[2], with_low_byte(bytes[3], 0)),
+        ),
     )
 }
 

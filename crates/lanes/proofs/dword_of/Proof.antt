@@ -7,29 +7,29 @@ use borrow.Author.Needs.{needs}
 use Rattle.lanes.proofs.dword_of.Statement.{statement}
 use Rattle.lanes.proofs.dword_of.Tie as tie
 
-array-read-below : tie.Need-array-read-below
-array-read-below c = search needs
+array-read-with-low-byte : tie.Need-array-read-with-low-byte
+array-read-with-low-byte c = search needs
 
-array-read-below-2 : tie.Need-array-read-below-2
-array-read-below-2 c = search needs
+array-read-with-low-byte-2 : tie.Need-array-read-with-low-byte-2
+array-read-with-low-byte-2 c = search needs
 
-array-read-below-3 : tie.Need-array-read-below-3
-array-read-below-3 c = search needs
+array-read-with-low-byte-3 : tie.Need-array-read-with-low-byte-3
+array-read-with-low-byte-3 c = search needs
 
-array-read-below-4 : tie.Need-array-read-below-4
-array-read-below-4 c = search needs
+array-read-with-low-byte-4 : tie.Need-array-read-with-low-byte-4
+array-read-with-low-byte-4 c = search needs
 
-below-requires : tie.Need-below-requires
-below-requires c κs = search needs
+with-low-byte-requires : tie.Need-with-low-byte-requires
+with-low-byte-requires c κs = search needs
 
-below-requires-2 : tie.Need-below-requires-2
-below-requires-2 c κs = search needs
+with-low-byte-requires-2 : tie.Need-with-low-byte-requires-2
+with-low-byte-requires-2 c κs = search needs
 
-below-requires-3 : tie.Need-below-requires-3
-below-requires-3 c κs = search needs
+with-low-byte-requires-3 : tie.Need-with-low-byte-requires-3
+with-low-byte-requires-3 c κs = search needs
 
-below-requires-4 : tie.Need-below-requires-4
-below-requires-4 c κs = search needs
+with-low-byte-requires-4 : tie.Need-with-low-byte-requires-4
+with-low-byte-requires-4 c κs = search needs
 
 returns : tie.Need-returns
 returns c =
@@ -41,12 +41,12 @@ pub dword-of-spec : {M : Type 1} → statement M
 dword-of-spec =
     tie.close
     (tie.spec
-    array-read-below
-    array-read-below-2
-    array-read-below-3
-    array-read-below-4
-    below-requires
-    below-requires-2
-    below-requires-3
-    below-requires-4
+    array-read-with-low-byte
+    array-read-with-low-byte-2
+    array-read-with-low-byte-3
+    array-read-with-low-byte-4
+    with-low-byte-requires
+    with-low-byte-requires-2
+    with-low-byte-requires-3
+    with-low-byte-requires-4
     returns)
