@@ -5,7 +5,7 @@ ghost use Rattle.model.specs.Pins.{lanes16, lanesOf, decode};
 ghost use Rattle.pins.specs.Answer.{decodedAs};
 ghost use Rattle.pins.specs.Carried.{carriedIn};
 
-// The number is 0, or 4 for a refusal.
+// The number is 0, or that of a refusal.
 pub struct Decoded {
     pub number: u8,
     pub lanes: u8,
@@ -79,7 +79,7 @@ pub fn decode(mode: u8, pins: u8, dq: u32) -> Decoded
 {
     if mode > 3 || pins > 15 {
         return Decoded {
-            number: 4,
+            number: access::SELECTOR,
             lanes: 15,
             dword: 0,
         };
