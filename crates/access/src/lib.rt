@@ -1,7 +1,9 @@
 // The words of an access: what is asked, what is answered, and the numbers of the refusals.
 ghost use mathlib.Core.Path.{_≡_};
 ghost use mathlib.Core.List.{[], _∷_};
+ghost use Prim.Native.Nat.{_<_};
 ghost use Rattle.model.specs.Choice.{if_then_else_};
+ghost use Rattle.model.specs.Sides.{sideOf, other, notBy};
 ghost use Rattle.model.specs.State.{misplaced};
 ghost use Rattle.model.specs.Accesses.{nonzero};
 
@@ -51,11 +53,25 @@ pub const RECORD_NUMBER: u8 = 22;
 
 pub const ZERO_BYTE: u8 = 23;
 
+// The number of the side other than this one.
+pub fn other_side(side: u8) -> u8
+    ensures { λ r. ⌜ (sideOf r ≡ other (sideOf side)) × (r < 2) ⌝ }
+{
+    if side == 0 { 1 } else { 0 }
+}
+
 // A numbered check before later ones: its number where its cause holds, else what they gave.
 pub fn when(number: u8, cause: bool, later: u8) -> u8
     ensures { λ r. ⌜ r ≡ (if cause then number else later) ⌝ }
 {
     if cause { number } else { later }
+}
+
+// Cause 5: the caller is another than the one side that may.
+pub fn wrong_side(may: u8, side: u8) -> bool
+    ensures { λ r. ⌜ r ≡ notBy (sideOf may) (sideOf side) ⌝ }
+{
+    if may == 0 { side != 0 } else { side == 0 }
 }
 
 // Cause 3: one of the fields that a kind does not use is not zero. A caller hands in 0 for each field that the kind uses.

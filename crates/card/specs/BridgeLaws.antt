@@ -21,36 +21,25 @@ use Rattle.model.specs.Interrupts.{liveBit, registerValue, registerWritten, act
 use Rattle.model.specs.Soundness.{sound-parts}
 use Rattle.model.specs.TestLaws.{and-left, and-right}
 use Rattle.events.specs.Registers.{raisedAll, valueWith, activeWith, liveOf}
-use Rattle.bays.specs.Labels.{labelAt, label-for-host}
 use Rattle.fifo.specs.declared.Fifo.{Fifo}
 use Rattle.fifo.specs.declared.Put.{Put}
 use Rattle.fifo.specs.declared.Taken.{Taken}
 use Rattle.fifo.specs.Held.{held, putOn, putAs, takenOff, takenAs}
 use Rattle.fifo.specs.HeldLaws.{kept-is, lost-is, some-is, none-is}
-use Rattle.card.specs.declared.Flags.{Flags}
-use Rattle.card.specs.declared.Mailboxes.{Mailboxes}
-use Rattle.card.specs.declared.Interrupts.{Interrupts}
+use Rattle.arbitration.specs.declared.Flags.{Flags}
+use Rattle.mailboxes.specs.declared.Mailboxes.{Mailboxes}
+use Rattle.interrupts.specs.declared.Interrupts.{Interrupts}
 use Rattle.access.specs.declared.Answer.the-variants.{Done}
+use Rattle.settings.specs.Bridge.{settingsAs}
+use Rattle.dma.specs.Bridge.{dmaAs}
+use Rattle.arbitration.specs.Bridge.{flagsAs}
+use Rattle.mailboxes.specs.Bridge.{mailboxesAs}
+use Rattle.interrupts.specs.Bridge.{interruptsAs, onSide, raisedBoth}
 use Rattle.card.specs.declared.Card.{Card}
 use Rattle.card.specs.declared.Outcome.{Outcome}
-use Rattle.card.specs.Bridge.{settingsAs, flagsAs, mailboxesAs, interruptsAs, dmaAs, stateOf, raisedBoth, Effected}
+use Rattle.card.specs.Bridge.{stateOf, Effected}
 
--- ARRAYS OF FOUR
-
-four : {A : Type 0} (P : List A → Type 0) → ((a b c d : A) → P (a ∷ b ∷ c ∷ d ∷ [])) → (l : List A) → length l ≡ 4 → P l
-four P f [] h = absurd (omega arith)
-four P f (a ∷ []) h = absurd (omega arith)
-four P f (a ∷ b ∷ []) h = absurd (omega arith)
-four P f (a ∷ b ∷ c ∷ []) h = absurd (omega arith)
-four P f (a ∷ b ∷ c ∷ d ∷ []) h = f a b c d
-four P f (a ∷ b ∷ c ∷ d ∷ e ∷ l) h = absurd (omega arith)
-
--- a test of four elements, one after another, is a test that there are four, and of every one
-pub every-four : {A B : Type 0} (p : B → Bool) (f : A → B) (d : A) (l : List A) → length l ≡ 4 →
-    (p (f (getD l 0 d)) && (p (f (getD l 1 d)) && (p (f (getD l 2 d)) && p (f (getD l 3 d))))) ≡ (eqb (length (map f l)) 4 && every p (map f l))
-every-four p f d =
-    four (λ l. (p (f (getD l 0 d)) && (p (f (getD l 1 d)) && (p (f (getD l 2 d)) && p (f (getD l 3 d))))) ≡ (eqb (length (map f l)) 4 && every p (map f l)))
-    (λ a b c d. simp and-true)
+-- ARRAYS
 
 map-set : {A B : Type 0} (f : A → B) (l : List A) (i : ℕ) (a : A) → map f (set l i a) ≡ set (map f l) i (f a)
 map-set f [] i a = refl
@@ -77,12 +66,13 @@ module _ (c : Card) where
   dma-is = refl
 
 -- the tests of a sound record, as the code groups them
-pub sound-is : (s : State) (settings fifos flags hint lint dma : Bool) → settings ≡ settingsPass (s .settings) →
+pub sound-is : (s : State) (settings fifos flags mailboxes interrupts dma : Bool) → settings ≡ settingsPass (s .settings) →
     fifos ≡ (eqb (length (s .fifos)) 4 && every fifoSound (s .fifos)) → flags ≡ (eqb (length (s .flags)) 4 && every flagsSound (s .flags)) →
-    hint ≡ registerSound host (s .interrupts .hint) → lint ≡ registerSound local (s .interrupts .lint) → dma ≡ dmaSound (s .dma) →
-    (settings && (fifos && (flags && (ltb (s .mailboxes .hldata) 65536 && (ltb (s .mailboxes .lhdata) 65536 && (hint && (lint && dma))))))) ≡ sound s
+    mailboxes ≡ (ltb (s .mailboxes .hldata) 65536 && ltb (s .mailboxes .lhdata) 65536) →
+    interrupts ≡ (registerSound host (s .interrupts .hint) && registerSound local (s .interrupts .lint)) → dma ≡ dmaSound (s .dma) →
+    (settings && (fifos && (flags && (mailboxes && (interrupts && dma))))) ≡ sound s
 unfolding sound
-sound-is s settings fifos flags hint lint dma a b c d e f = rw (a, b, c, d, e, f) (simp (and-assoc, and-true))
+sound-is s settings fifos flags mailboxes interrupts dma a b c d e f = rw (a, b, c, d, e, f) (simp (and-assoc, and-true))
 
 -- FRESH CARDS
 
@@ -127,8 +117,11 @@ interrupts-set c i j h = rw h
 
 -- AN EFFECT, branch by branch
 
-by-effect : (e f : Effect) (c : Card) (r : Outcome) → e ≡ f → Effected f c r → Effected e c r
-by-effect e f c r p q = rw p q
+pub by-effect : (P : Effect → Type 0) (e f : Effect) → e ≡ f → P f → P e
+by-effect P e f p q = rw p q
+
+abbrev Gives : Card → Outcome → Effect → Type 0
+Gives c r e = Effected e c r
 
 -- an effect that changes nothing
 pub unchanged : (v x m y : ℕ) (c : Card) → m ≡ v → y ≡ x → Effected (done v x []) c (record { card = c; answer = Done m y })
@@ -153,28 +146,28 @@ module _ (c : Card) (i : ℕ) where
       Effected (putInto side i (fifo (stateOf c) i) v) c (record { card = withFifo c i (p .fifo); answer = Done 0 1 })
   put-kept side v p e h =
       let k = kept-is (held (fifoAt c i)) v (putAs p) e h in
-      by-effect _ (done 0 1 (pushed i v ∷ [])) c _ (rw (fifo-at, k .0))
+      by-effect (Gives c _) _ (done 0 1 (pushed i v ∷ [])) (rw (fifo-at, k .0))
       (record { answer = refl; state = fifo-set c i (p .fifo) (fifo (stateOf c) i ++ (v ∷ [])) (k .1 ∙ ap (λ l. l ++ (v ∷ [])) (sym fifo-at)) })
 
   pub put-lost : (side : Side) (v : ℕ) (p : Put) (d : Card) (n : ℕ) → putAs p ≡ putOn (held (fifoAt c i)) v → p .kept ≡ false →
-      n ≡ mask (overflow side) → stateOf d ≡ raisedBoth n (stateOf c) →
+      n ≡ mask (overflow side) → stateOf d ≡ changes.withInterrupts (raisedBoth n (stateOf c .interrupts)) (stateOf c) →
       Effected (putInto side i (fifo (stateOf c) i) v) c (record { card = d; answer = Done 0 0 })
   put-lost side v p d n e h m q =
-      by-effect _ (done 0 0 (raisedInBoth (overflow side))) c _ (rw (fifo-at, lost-is (held (fifoAt c i)) v (putAs p) e h))
+      by-effect (Gives c _) _ (done 0 0 (raisedInBoth (overflow side))) (rw (fifo-at, lost-is (held (fifoAt c i)) v (putAs p) e h))
       (record { answer = refl; state = q ∙ rw m })
 
   pub taken-some : (t : Taken) → takenAs t ≡ takenOff (held (fifoAt c i)) → t .some ≡ true →
       Effected (takenFrom i (fifo (stateOf c) i)) c (record { card = withFifo c i (t .fifo); answer = Done (t .entry) 1 })
   taken-some t e h =
       let l = fifo-at ∙ some-is (takenAs t) (held (fifoAt c i)) e h in
-      by-effect _ (done (t .entry) 1 (popped i ∷ [])) c _ (rw l)
+      by-effect (Gives c _) _ (done (t .entry) 1 (popped i ∷ [])) (rw l)
       (record { answer = refl; state = fifo-set c i (t .fifo) (drop 1 (fifo (stateOf c) i)) (sym (ap (drop 1) l)) })
 
   pub taken-none : (t : Taken) → takenAs t ≡ takenOff (held (fifoAt c i)) → t .some ≡ false →
       Effected (takenFrom i (fifo (stateOf c) i)) c (record { card = c; answer = Done (t .entry) 0 })
   taken-none t e h =
       let l = none-is (takenAs t) (held (fifoAt c i)) e h in
-      by-effect _ (done 4294967295 0 []) c _ (rw (fifo-at, l .0)) (unchanged 4294967295 0 (t .entry) 0 c (l .1) refl)
+      by-effect (Gives c _) _ (done 4294967295 0 []) (rw (fifo-at, l .0)) (unchanged 4294967295 0 (t .entry) 0 c (l .1) refl)
 
   pub flag-set : (side : Side) (b : Bool) (f : Flags) → flagsAs f ≡ withFlag side b (flagsAs (pairAt c i)) →
       stateOf (withPair c i f) ≡ apply (flagIs side i b) (stateOf c)
@@ -182,11 +175,11 @@ module _ (c : Card) (i : ℕ) where
 
   pub claim-lost : (side : Side) (b : Bool) → b ≡ flag (other side) (flagsAs (pairAt c i)) → b ≡ true →
       Effected (claimed side i (pair (stateOf c) i)) c (record { card = c; answer = Done 0 0 })
-  claim-lost side b e h = by-effect _ (done 0 0 []) c _ (rw (pair-at, ← e, h)) (unchanged 0 0 0 0 c refl refl)
+  claim-lost side b e h = by-effect (Gives c _) _ (done 0 0 []) (rw (pair-at, ← e, h)) (unchanged 0 0 0 0 c refl refl)
 
   pub claim-won : (side : Side) (b : Bool) (d : Card) → b ≡ flag (other side) (flagsAs (pairAt c i)) → b ≡ false →
       stateOf d ≡ apply (flagIs side i true) (stateOf c) → Effected (claimed side i (pair (stateOf c) i)) c (record { card = d; answer = Done 1 0 })
-  claim-won side b d e h q = by-effect _ (done 1 0 (flagIs side i true ∷ [])) c _ (rw (pair-at, ← e, h)) (record { answer = refl; state = q })
+  claim-won side b d e h q = by-effect (Gives c _) _ (done 1 0 (flagIs side i true ∷ [])) (rw (pair-at, ← e, h)) (record { answer = refl; state = q })
 
 -- MAILBOXES
 
@@ -194,16 +187,13 @@ module _ (c : Card) (side : Side) (b : ℕ) (m : Mailboxes) (e : mailboxesAs m �
   pub mail-rung : (o : Side) (d : Card) → b / 16777216 % 2 ≡ 1 → o ≡ other side → stateOf d ≡ onRegister o (raisedAll (mask mailbox)) (stateOf (withMailboxes c m)) →
       Effected (mailWritten side b) c (record { card = d; answer = Done 0 0 })
   mail-rung o d h p q =
-      by-effect _ (done 0 0 (mailIs side (b % 65536) ∷ raised (other side) mailbox ∷ [])) c _ (rw (eq-eqb (b / 16777216 % 2) 1 h))
+      by-effect (Gives c _) _ (done 0 0 (mailIs side (b % 65536) ∷ raised (other side) mailbox ∷ [])) (rw (eq-eqb (b / 16777216 % 2) 1 h))
       (record { answer = refl; state = q ∙ rw (p, mailboxes-set c m _ e, mailboxes-is c) })
 
   pub mail-quiet : (b / 16777216 % 2 ≡ 1 → ⊥) → Effected (mailWritten side b) c (record { card = withMailboxes c m; answer = Done 0 0 })
   mail-quiet h =
-      by-effect _ (done 0 0 (mailIs side (b % 65536) ∷ [])) c _ (rw (ne-eqb (b / 16777216 % 2) 1 h))
+      by-effect (Gives c _) _ (done 0 0 (mailIs side (b % 65536) ∷ [])) (rw (ne-eqb (b / 16777216 % 2) 1 h))
       (record { answer = refl; state = mailboxes-set c m _ e ∙ rw (mailboxes-is c) })
-
-pub label-host : (side : Side) (m : model.Mailboxes) (n : ℕ) → side ≡ host → m .written ≡ true → n ≡ labelAt (m .lhdata % 256) → n ≡ labelFor side m
-label-host side m n p w q = rw p (q ∙ sym (label-for-host m ∙ ap (λ b. if b then labelAt (m .lhdata % 256) else 0) w))
 
 -- INTERRUPT REGISTERS
 
@@ -218,25 +208,24 @@ pub live-is : (c : Card) (n a b : ℕ) (p q : Bool) → n ≡ bitOr a b → a �
     p ≡ eqb (length (held (fifoAt c 1))) 0 → q ≡ eqb (length (held (fifoAt c 3))) 0 → n ≡ liveOf (stateOf c)
 live-is c n a b p q e f g h k = e ∙ rw (live-one c 1 inboundPost a p f h, live-one c 3 outboundPost b q g k)
 
--- a side's register written and read again
-same-register : (side : Side) (r : model.Register) (i : model.Interrupts) → register side (changes.withRegister side r i) ≡ r
-same-register host r i = refl
-same-register local r i = refl
+-- one side's register changed
+pub register-changed : (c : Card) (side : Side) (f : model.Register → model.Register) (i : Interrupts) → interruptsAs i ≡ onSide side f (interruptsAs (c .interrupts)) →
+    stateOf (withInterrupts c i) ≡ onRegister side f (stateOf c)
+register-changed c side f i e = interrupts-set c i _ e ∙ rw (interrupts-is c)
 
-last-register : (side : Side) (q r : model.Register) (i : model.Interrupts) → changes.withRegister side r (changes.withRegister side q i) ≡ changes.withRegister side r i
-last-register host q r i = refl
-last-register local q r i = refl
+pub both-raised : (c : Card) (n : ℕ) (i : Interrupts) → interruptsAs i ≡ raisedBoth n (interruptsAs (c .interrupts)) →
+    stateOf (withInterrupts c i) ≡ changes.withInterrupts (raisedBoth n (stateOf c .interrupts)) (stateOf c)
+both-raised c n i e = interrupts-set c i _ e ∙ rw (interrupts-is c)
 
-module _ (c : Card) (side : Side) (i : Interrupts) (r q : model.Register) (g : r ≡ register side (interruptsAs (c .interrupts))) (e : interruptsAs i ≡ changes.withRegister side q (interruptsAs (c .interrupts))) where
-  pub register-raised : (n : ℕ) → q ≡ raisedAll n r → stateOf (withInterrupts c i) ≡ onRegister side (raisedAll n) (stateOf c)
-  register-raised n h = interrupts-set c i _ e ∙ rw (h, g, interrupts-is c)
+-- enables replaced, then status cleared: as the code does it at once
+written-twice : (side : Side) (n b : ℕ) (i : model.Interrupts) → onSide side (λ r. clearedIn b (enablesIn n r)) i ≡ onSide side (clearedIn b) (onSide side (enablesIn n) i)
+written-twice host n b i = refl
+written-twice local n b i = refl
 
-  pub register-written : (b : ℕ) → q ≡ clearedIn b (enablesIn (common (b / 65536) (enableMask side)) r) →
-      Effected (registerWritten side b) c (record { card = withInterrupts c i; answer = Done 0 0 })
-  register-written b h = record {
-    answer = refl;
-    state = interrupts-set c i _ e ∙ rw (h, g, interrupts-is c, same-register side, last-register side);
-  }
+pub register-written : (c : Card) (side : Side) (b : ℕ) (i : Interrupts) →
+    interruptsAs i ≡ onSide side (λ r. clearedIn b (enablesIn (common (b / 65536) (enableMask side)) r)) (interruptsAs (c .interrupts)) →
+    Effected (registerWritten side b) c (record { card = withInterrupts c i; answer = Done 0 0 })
+register-written c side b i e = record { answer = refl; state = interrupts-set c i _ (e ∙ written-twice side _ b _) ∙ rw (interrupts-is c) }
 
 module _ (c : Card) (side : Side) (r : model.Register) (live : ℕ) (g : r ≡ register side (interruptsAs (c .interrupts))) (l : live ≡ liveOf (stateOf c)) where
   pub value-read : (v : ℕ) → v ≡ valueWith live r → v ≡ registerValue side (stateOf c)

@@ -19,7 +19,7 @@ use Rattle.access.specs.declared.Answer.the-variants.{Done, Refused}
 use Rattle.access.specs.Words.{accessOf, answerOf}
 use Rattle.card.specs.declared.Card.{Card}
 use Rattle.card.specs.declared.Outcome.{Outcome}
-use Rattle.card.specs.Bridge.{stateOf, Effected}
+use Rattle.card.specs.Bridge.{stateOf, Effected, Stored}
 
 abbrev pub worldOf : Card → (shared window : List ℕ) → World
 worldOf c shared window = record { card = stateOf c; shared = shared; window = window }
@@ -51,15 +51,19 @@ refused-did k card q m w n p h = record { told = rw (← p) (by n h); kept = λ 
     by zero h = absurd (h refl)
     by (suc n) h = refl
 
--- done, and nothing is stored in a memory
+-- done, with a dword stored in a memory or not
+pub stored-did : (k : Kind) (card : Card) (q : Access) (m w : List ℕ) (r : Outcome) (m′ w′ : List ℕ) → refusal (rowOf k (worldOf card m w) (accessOf q) .checks) ≡ 0 →
+    Stored (rowOf k (worldOf card m w) (accessOf q) .effect) card m w r m′ w′ → Did k card q m w r m′ w′
+unfolding does
+stored-did k card q m w r m′ w′ p e = record {
+  told = rw (p, e .effected .answer, e .effected .state, e .memories .shared, e .memories .window);
+  kept = λ h. absurd (h (ap (λ (x : Answer). answerOf x .number) (e .effected .answer)));
+  said = done-said (e .effected .answer);
+}
+
 pub done-did : (k : Kind) (card : Card) (q : Access) (m w : List ℕ) (r : Outcome) → refusal (rowOf k (worldOf card m w) (accessOf q) .checks) ≡ 0 →
     rowOf k (worldOf card m w) (accessOf q) .effect .store ≡ nothing → Effected (rowOf k (worldOf card m w) (accessOf q) .effect) card r → Did k card q m w r m w
-unfolding does
-done-did k card q m w r p s e = record {
-  told = rw (p, e .answer, e .state, s);
-  kept = λ h. absurd (h (ap (λ (x : Answer). answerOf x .number) (e .answer)));
-  said = done-said (e .answer);
-}
+done-did k card q m w r p s e = stored-did k card q m w r m w p (record { effected = e; memories = rw s (record { shared = refl; window = refl }) })
 
 -- where nothing is refused, no cause of the row holds
 pub row-passed : (k : Kind) (w : World) (q : words.Access) (n : ℕ) → n ≡ refusal (rowOf k w q .checks) → n ≡ 0 → Pass (rowOf k w q .checks)

@@ -6,63 +6,30 @@ ghost use Prim.Native.Nat.{_<_, _/_};
 ghost use lib.ListN.{length};
 ghost use lib.Dec.{eqb};
 ghost use Rattle.model.specs.Choice.{if_then_else_, every};
-ghost use Rattle.model.specs.Checks.{refusal};
-ghost use Rattle.model.specs.Sides.{host, sideOf, other};
+ghost use Rattle.model.specs.Sides.{host, sideOf};
 ghost use Rattle.model.specs.Events.{external, mask};
-ghost use Rattle.model.specs.State.{running, transferChecks, settingsPass, fifoSound, flagsSound, dmaSound, sound, fresh, freshCard};
-ghost use Rattle.model.specs.Changes.{allFresh, flagIs, raised, dmaIs, fifo, pair, flag, register, withFlag, withMail, withRegister, onRegister, apply, done};
+ghost use Rattle.model.specs.State.{running, fifoSound, flagsSound, sound, fresh, freshCard};
+ghost use Rattle.model.specs.Changes.{allFresh, flagIs, raised, dmaIs, fifo, pair, withInterrupts, onRegister, apply, done};
 ghost use Rattle.model.specs.FifosAndFlags.{overflow, takenFrom, putInto, claimed};
 ghost use Rattle.model.specs.Mailboxes.{mailWritten, mailFor, labelFor};
 ghost use Rattle.model.specs.Interrupts.{registerValue, registerWritten, active};
-ghost use Rattle.model.specs.Accesses.{isIdle};
-ghost use Rattle.events.specs.Registers.{registerAs, raisedAll, liveOf};
-ghost use Rattle.fifo.specs.Held.{held};
-ghost use Rattle.card.specs.Bridge.{settingsAs, flagsAs, mailboxesAs, interruptsAs, transferAs, dmaAs, stateOf, raisedBoth, newCardAs, Effected};
+ghost use Rattle.events.specs.Registers.{raisedAll, liveOf};
+ghost use Rattle.access.specs.declared.Answer.the-variants.{Done, Refused};
+ghost use Rattle.settings.specs.Bridge.{settingsAs};
+ghost use Rattle.dma.specs.Bridge.{transferAs, dmaAs};
+ghost use Rattle.arbitration.specs.Bridge.{flagsAs};
+ghost use Rattle.interrupts.specs.Bridge.{raisedBoth};
+ghost use Rattle.card.specs.Bridge.{stateOf, newCardAs, Effected};
 use access::Answer;
-use bays::BayIndex;
+use arbitration::Flags;
+use dma::Dma;
+use dma::Transfer;
 use events::EventSet;
 use events::Register;
 use fifo::Fifo;
-
-// "Window base, window length, and a target-abort range given as two offsets lo and hi (lo included, hi not)."
-pub struct Settings {
-    pub base: u32,
-    pub length: u32,
-    pub lo: u32,
-    pub hi: u32,
-}
-
-// The arbitration flags of one pair.
-pub struct Flags {
-    pub host: bool,
-    pub local: bool,
-}
-
-// `written`: LHDATA was written since reset.
-pub struct Mailboxes {
-    pub hldata: u32,
-    pub lhdata: u32,
-    pub written: bool,
-}
-
-pub struct Interrupts {
-    pub hint: Register,
-    pub lint: Register,
-}
-
-// What a start says of its transfer: S, A, B and C.
-pub struct Transfer {
-    pub direction: u8,
-    pub shared: u32,
-    pub pci: u32,
-    pub size: u32,
-}
-
-// No transfer runs, or one of which so many dwords have been moved.
-pub enum Dma {
-    Idle,
-    Running(Transfer, u32),
-}
+use interrupts::Interrupts;
+use mailboxes::Mailboxes;
+use settings::Settings;
 
 pub struct Card {
     pub settings: Settings,
@@ -87,116 +54,6 @@ pub struct Outcome {
 
 // SOUND RECORDS
 
-// "They pass if all are multiples of 4, length is at most 65,536, base + length is at most 4,294,967,296, and lo <= hi <= length."
-pub fn settings_pass(settings: Settings) -> bool
-    ensures { λ r. ⌜ r ≡ settingsPass (settingsAs settings) ⌝ }
-{
-    let end = settings.base as u64 + settings.length as u64;
-    (settings.base % 4 == 0)
-        & ((settings.length % 4 == 0)
-            & ((settings.lo % 4 == 0)
-                & ((settings.hi % 4 == 0)
-                    & ((settings.length <= 65536)
-                        & ((end <= 4294967296)
-                            & ((settings.lo <= settings.hi) & (settings.hi <= settings.length)))))))
-}
-
-// There are four, since the record is of the code's type.
-fn fifos_sound(fifos: [Fifo; 4]) -> bool
-    ensures { λ r. ⌜ r ≡ (eqb (length (map held fifos)) 4 && every fifoSound (map held fifos)) ⌝ }
-{
-    let f0 = fifos[0];
-    let f1 = fifos[1];
-    let f2 = fifos[2];
-    let f3 = fifos[3];
-    f0.sound() & (f1.sound() & (f2.sound() & f3.sound()))
-}
-
-impl Flags {
-    // "No pair has both flags set."
-    pub fn sound(self) -> bool
-        ensures { λ r. ⌜ r ≡ flagsSound (flagsAs self) ⌝ }
-    {
-        !(self.host & self.local)
-    }
-
-    // the flag of the side other than this one
-    pub fn other(self, side: u8) -> bool
-        ensures { λ r. ⌜ r ≡ flag (other (sideOf side)) (flagsAs self) ⌝ }
-    {
-        if side == 0 { self.local } else { self.host }
-    }
-
-    pub fn with(self, side: u8, set: bool) -> Flags
-        ensures { λ r. ⌜ flagsAs r ≡ withFlag (sideOf side) set (flagsAs self) ⌝ }
-    {
-        if side == 0 {
-            Flags {
-                host: set,
-                local: self.local,
-            }
-        } else {
-            Flags {
-                host: self.host,
-                local: set,
-            }
-        }
-    }
-}
-
-fn flags_sound(flags: [Flags; 4]) -> bool
-    ensures { λ r. ⌜ r ≡ (eqb (length (map flagsAs flags)) 4 && every flagsSound (map flagsAs flags)) ⌝ }
-{
-    let f0 = flags[0];
-    let f1 = flags[1];
-    let f2 = flags[2];
-    let f3 = flags[3];
-    f0.sound() & (f1.sound() & (f2.sound() & f3.sound()))
-}
-
-// Causes 7, 8 and 9 of a transfer, as a start and a sound record share them.
-pub fn transfer_refusal(transfer: Transfer) -> u8
-    ensures { λ r. ⌜ r ≡ refusal (transferChecks (transferAs transfer)) ⌝ }
-{
-    let size = transfer.size;
-    let address = access::misplaced(transfer.shared, size, 0, 16384)
-        | access::misplaced(transfer.pci, size, 0, 4294967296);
-    access::when(
-        access::EMPTY_TRANSFER,
-        size == 0,
-        access::when(
-            access::SIZE,
-            (size % 4 != 0) | (16384 < size),
-            access::when(access::ADDRESS, address, 0),
-        ),
-    )
-}
-
-impl Dma {
-    pub fn is_idle(self) -> bool
-        ensures { λ r. ⌜ r ≡ isIdle (dmaAs self) ⌝ }
-    {
-        match self {
-            Dma::Idle => true,
-            Dma::Running(_, _) => false,
-        }
-    }
-
-    // "A running transfer meets the start checks with fewer dwords moved than size / 4."
-    pub fn sound(self) -> bool
-        ensures { λ r. ⌜ r ≡ dmaSound (dmaAs self) ⌝ }
-    {
-        match self {
-            Dma::Idle => true,
-            Dma::Running(transfer, moved) => {
-                let later = transfer_refusal(transfer);
-                let number = access::when(access::SELECTOR, 1 < transfer.direction, later);
-                (number == 0) & (moved < transfer.size / 4)
-            }
-        }
-    }
-}
-
 // "A card record is sound if its settings pass, each FIFO .., no pair .., mailbox data is below 65,536, .."
 pub fn sound(card: Card) -> bool
     ensures { λ r. ⌜ r ≡ sound (stateOf card) ⌝ }
@@ -205,15 +62,12 @@ pub fn sound(card: Card) -> bool
     let fifos = card.fifos;
     let flags = card.flags;
     let mailboxes = card.mailboxes;
-    let hint = card.interrupts.hint;
-    let lint = card.interrupts.lint;
+    let interrupts = card.interrupts;
     let dma = card.dma;
-    settings_pass(settings)
-        & (fifos_sound(fifos)
-            & (flags_sound(flags)
-                & ((mailboxes.hldata < 65536)
-                    & ((mailboxes.lhdata < 65536)
-                        & (hint.sound(0) & (lint.sound(1) & dma.sound()))))))
+    settings.pass()
+        & (fifo::all_sound(fifos)
+            & (arbitration::all_sound(flags)
+                & (mailboxes.sound() & (interrupts.sound() & dma.sound()))))
 }
 
 // THE FRESH CARD
@@ -250,7 +104,7 @@ fn cleared(settings: Settings) -> Card
 pub fn fresh(settings: Settings) -> NewCard
     ensures { λ r. ⌜ newCardAs r ≡ freshCard (settingsAs settings) ⌝ }
 {
-    if settings_pass(settings) {
+    if settings.pass() {
         return NewCard {
             number: 0,
             card: cleared(settings),
@@ -268,70 +122,7 @@ pub fn fresh(settings: Settings) -> NewCard
     }
 }
 
-// PARTS OF THE RECORD, by the side
-
-impl Mailboxes {
-    pub fn write(self, side: u8, word: u32) -> Mailboxes
-        ensures { λ r. ⌜ mailboxesAs r ≡ withMail (sideOf side) word (mailboxesAs self) ⌝ }
-    {
-        if side == 0 {
-            Mailboxes {
-                hldata: word,
-                lhdata: self.lhdata,
-                written: self.written,
-            }
-        } else {
-            Mailboxes {
-                hldata: self.hldata,
-                lhdata: word,
-                written: true,
-            }
-        }
-    }
-
-    // "A read gives the mailbox addressed to the caller."
-    pub fn read(self, side: u8) -> u32
-        ensures { λ r. ⌜ r ≡ mailFor (sideOf side) (mailboxesAs self) ⌝ }
-    {
-        if side == 0 { self.lhdata } else { self.hldata }
-    }
-
-    // "X is that label on a host read if the mailbox was written since reset .. A local read has X 0."
-    pub fn label(self, side: u8) -> u32
-        ensures { λ r. ⌜ r ≡ labelFor (sideOf side) (mailboxesAs self) ⌝ }
-    {
-        if side != 0 {
-            return 0;
-        }
-        if self.written {
-            let index = self.lhdata % 256;
-            let label = bays::label(BayIndex(index as u8));
-            return label.0 as u32;
-        }
-        0
-    }
-}
-
-impl Interrupts {
-    pub fn register(self, side: u8) -> Register
-        ensures { λ r. ⌜ registerAs r ≡ register (sideOf side) (interruptsAs self) ⌝ }
-    {
-        if side == 0 { self.hint } else { self.lint }
-    }
-
-    pub fn with(self, side: u8, register: Register) -> Interrupts
-        ensures { λ r. ⌜ interruptsAs r ≡ withRegister (sideOf side) (registerAs register) (interruptsAs self) ⌝ }
-    {
-        let mut interrupts = self;
-        if side == 0 {
-            interrupts.hint = register;
-            interrupts
-        } else {
-            interrupts.lint = register;
-            interrupts
-        }
-    }
-}
+// CHANGES OF THE RECORD
 
 // The event of a put that a side loses.
 fn lost_event(side: u8) -> EventSet
@@ -344,33 +135,27 @@ fn lost_event(side: u8) -> EventSet
     }
 }
 
-pub fn other_side(side: u8) -> u8
-    ensures { λ r. ⌜ sideOf r ≡ other (sideOf side) ⌝ }
-{
-    if side == 0 { 1 } else { 0 }
-}
-
-// CHANGES OF THE RECORD
-
 impl Card {
-    pub fn raise(self, side: u8, events: EventSet) -> Card
+    fn raise(self, side: u8, events: EventSet) -> Card
         ensures { λ r. ⌜ stateOf r ≡ onRegister (sideOf side) (raisedAll (events .0)) (stateOf self) ⌝ }
     {
         let interrupts = self.interrupts;
-        let register = interrupts.register(side);
         let mut card = self;
-        card.interrupts = interrupts.with(side, register.raise(events));
+        card.interrupts = interrupts.raise(side, events);
         card
     }
 
     // "In both registers."
     pub fn raise_both(self, events: EventSet) -> Card
-        ensures { λ r. ⌜ stateOf r ≡ raisedBoth (events .0) (stateOf self) ⌝ }
+        ensures { λ r. ⌜ stateOf r ≡ withInterrupts (raisedBoth (events .0) (stateOf self .interrupts)) (stateOf self) ⌝ }
     {
-        self.raise(0, events).raise(1, events)
+        let interrupts = self.interrupts;
+        let mut card = self;
+        card.interrupts = interrupts.raise_both(events);
+        card
     }
 
-    pub fn with_flag(self, side: u8, i: usize, set: bool) -> Card
+    fn with_flag(self, side: u8, i: usize, set: bool) -> Card
         requires { ⌜ i < 4 ⌝ }
         ensures { λ r. ⌜ stateOf r ≡ apply (flagIs (sideOf side) i set) (stateOf self) ⌝ }
     {
@@ -400,7 +185,7 @@ impl Card {
     }
 
     // "Bits 6 and 7 follow FIFOs 1 and 3."
-    pub fn live(self) -> EventSet
+    fn live(self) -> EventSet
         ensures { λ r. ⌜ r .0 ≡ liveOf (stateOf self) ⌝ }
     {
         let inbound = self.fifos[1];
@@ -411,9 +196,29 @@ impl Card {
     }
 }
 
-// WHAT AN ACCESS DOES TO THE REGISTERS, once nothing refuses it
+// WHAT AN ACCESS GIVES, and what it does to the registers once nothing refuses it
 
 impl Card {
+    // "Record and memories are unchanged."
+    pub fn refused(self, number: u8) -> Outcome
+        ensures { λ r. ⌜ r ≡ record { card = self; answer = Refused number } ⌝ }
+    {
+        Outcome {
+            card: self,
+            answer: Answer::Refused(number),
+        }
+    }
+
+    // "0 is done."
+    pub fn done(self, v: u32, x: u32) -> Outcome
+        ensures { λ r. ⌜ r ≡ record { card = self; answer = Done v x } ⌝ }
+    {
+        Outcome {
+            card: self,
+            answer: Answer::Done(v, x),
+        }
+    }
+
     // "Registers as fresh; settings and memories stay."
     pub fn reset(self) -> Outcome
         ensures { λ r. ⌜ Effected (done 0 0 (allFresh ∷ [])) self r ⌝ }
@@ -508,7 +313,7 @@ impl Card {
         card.mailboxes = mailboxes.write(side, value % 65536);
         if value / 16777216 % 2 == 1 {
             return Outcome {
-                card: card.raise(other_side(side), events::MAILBOX),
+                card: card.raise(access::other_side(side), events::MAILBOX),
                 answer: Answer::Done(0, 0),
             };
         }
@@ -547,9 +352,8 @@ impl Card {
         ensures { λ r. ⌜ Effected (registerWritten (sideOf side) value) self r ⌝ }
     {
         let interrupts = self.interrupts;
-        let register = interrupts.register(side);
         let mut card = self;
-        card.interrupts = interrupts.with(side, register.write(side, value));
+        card.interrupts = interrupts.write(side, value);
         Outcome {
             card: card,
             answer: Answer::Done(0, 0),

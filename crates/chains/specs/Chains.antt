@@ -10,11 +10,12 @@ use Rattle.model.specs.Accesses.{access}
 use Rattle.access.specs.declared.Access.{Access}
 use Rattle.access.specs.declared.Answer.{Answer}
 use Rattle.access.specs.Words.{accessOf, answerOf}
-use Rattle.card.specs.declared.Settings.{Settings}
+use Rattle.settings.specs.declared.Settings.{Settings}
+use Rattle.settings.specs.Bridge.{settingsAs}
 use Rattle.card.specs.declared.Card.{Card}
 use Rattle.card.specs.declared.NewCard.{NewCard}
 use Rattle.card.specs.declared.Outcome.{Outcome}
-use Rattle.card.specs.Bridge.{settingsAs, newCardAs}
+use Rattle.card.specs.Bridge.{newCardAs}
 use Rattle.card.specs.Did.{worldOf}
 use Rattle.device.specs.Arms.{Accessed}
 use Rattle.reordering.specs.Roles.{roles, moved, Undisturbed}

@@ -8,7 +8,6 @@ ghost use Rattle.access.specs.declared.Answer.the-variants.{Refused};
 ghost use Rattle.access.specs.Words.{accessOf, answerOf};
 ghost use Rattle.card.specs.Did.{worldOf, outcomeOf};
 use access::Access;
-use access::Answer;
 use card::Card;
 use card::Outcome;
 
@@ -18,7 +17,7 @@ fn fits(card: Card, shared: usize, window: usize) -> bool
 {
     let sound = card::sound(card);
     let settings = card.settings;
-    (sound & (shared == 16384)) & (window == settings.length as usize)
+    sound & settings.lengths_fit(shared, window)
 }
 
 // "An access lends both memories and gets the new record back by value." A refusal hands back the very record and leaves
@@ -29,16 +28,10 @@ pub fn access(card: Card, shared: &mut [u8], window: &mut [u8], q: Access) -> Ou
     ensures { λ r. ⌜ (r .answer ≡ Refused 0 → ⊥) ⌝ }
 {
     if !fits(card, shared.len(), window.len()) {
-        return Outcome {
-            card: card,
-            answer: Answer::Refused(access::UNFIT),
-        };
+        return card.refused(access::UNFIT);
     }
     if 1 < q.side {
-        return Outcome {
-            card: card,
-            answer: Answer::Refused(access::UNKNOWN),
-        };
+        return card.refused(access::UNKNOWN);
     }
     let kind = q.kind;
     match kind {
@@ -57,11 +50,8 @@ pub fn access(card: Card, shared: &mut [u8], window: &mut [u8], q: Access) -> Ou
         12 => registers::interrupt_write(card, q),
         13 => registers::line(card, q),
         14 => registers::start(card, q),
-        15 => memories::step(card, shared, window, q),
+        15 => step::step(card, shared, window, q),
         16 => registers::external_pin(card, q),
-        17..=255 => Outcome {
-            card: card,
-            answer: Answer::Refused(access::UNKNOWN),
-        },
+        17..=255 => card.refused(access::UNKNOWN),
     }
 }

@@ -5,16 +5,16 @@ ghost use Prim.Native.Nat.{_<_};
 ghost use lib.ListN.{length};
 use access::Access;
 use access::Answer;
+use arbitration::Flags;
 use card::Card;
-use card::Dma;
-use card::Flags;
-use card::Interrupts;
-use card::Mailboxes;
-use card::Settings;
-use card::Transfer;
+use dma::Dma;
+use dma::Transfer;
 use events::EventSet;
 use events::Register;
 use fifo::Fifo;
+use interrupts::Interrupts;
+use mailboxes::Mailboxes;
+use settings::Settings;
 
 // WHAT A CASE SAYS: numbers of four bytes, least byte first
 

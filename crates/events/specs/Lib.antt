@@ -1,4 +1,3 @@
 pub mod Complement
 pub mod Registers
 pub mod Sets
-pub mod SideNumbers

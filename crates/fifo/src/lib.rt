@@ -1,8 +1,10 @@
 // Document 01, "FIFOs and flags": one FIFO by value.
 ghost use mathlib.Core.Path.{_≡_};
-ghost use mathlib.Core.List.{[], _∷_, _++_};
+ghost use mathlib.Core.Bool.{_&&_};
+ghost use mathlib.Core.List.{[], _∷_, _++_, map};
 ghost use lib.ListN.{length, drop};
 ghost use lib.Dec.{eqb};
+ghost use Rattle.model.specs.Choice.{every};
 ghost use Rattle.model.specs.State.{fifoSound};
 ghost use Rattle.fifo.specs.Held.{held, putOn, putAs, takenOff, takenAs};
 
@@ -110,4 +112,15 @@ impl Fifo {
             some: true,
         }
     }
+}
+
+// The four of a card; there are four, since the array has so many.
+pub fn all_sound(fifos: [Fifo; 4]) -> bool
+    ensures { λ r. ⌜ r ≡ (eqb (length (map held fifos)) 4 && every fifoSound (map held fifos)) ⌝ }
+{
+    let f0 = fifos[0];
+    let f1 = fifos[1];
+    let f2 = fifos[2];
+    let f3 = fifos[3];
+    f0.sound() & (f1.sound() & (f2.sound() & f3.sound()))
 }

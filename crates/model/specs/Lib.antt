@@ -16,6 +16,8 @@ pub mod Pins
 pub mod TestLaws
 pub mod CheckLaws
 pub mod CauseLaws
+pub mod SideLaws
+pub mod FourLaws
 pub mod LaneLaws
 pub mod EventLaws
 pub mod KindNumbers

@@ -11,7 +11,7 @@ ghost use Rattle.report.specs.Put.{Put};
 ghost use Rattle.player.specs.Standings.{standingOf, Played, zeros};
 use access::Answer;
 use card::Card;
-use card::Settings;
+use settings::Settings;
 use trace::Read;
 
 // Where a replay stands: the card, the record number expected, the records answered, and whether a refusal of the reader has stopped it.

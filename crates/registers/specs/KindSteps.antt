@@ -15,7 +15,8 @@ use Rattle.model.specs.FifosAndFlags.{putter, takenFrom, putInto, claimed}
 use Rattle.model.specs.Accesses.{isIdle}
 use Rattle.model.specs.TestLaws.{no-both, or-false, if-case}
 use Rattle.card.specs.declared.Card.{Card}
-use Rattle.card.specs.Bridge.{dmaAs, stateOf}
+use Rattle.dma.specs.Bridge.{dmaAs}
+use Rattle.card.specs.Bridge.{stateOf}
 use Rattle.card.specs.BridgeLaws.{dma-is}
 
 pub puts-local : (s : ℕ) → (eqb s 0 || eqb s 3) ≡ true → putter s ≡ local
@@ -33,15 +34,6 @@ puts-host (suc zero) h = refl
 puts-host (suc (suc zero)) h = refl
 puts-host (suc (suc (suc zero))) h = no-both (let e : false ≡ true = cc in e)
 puts-host (suc (suc (suc (suc s)))) h = refl
-
--- the caller is not the host, or not the local side, told by its number
-pub not-host : (n : ℕ) → not (eqb n 0) ≡ notBy host (sideOf n)
-not-host zero = refl
-not-host (suc n) = rw (eqb·suc-zero n)
-
-pub not-local : (n : ℕ) → eqb n 0 ≡ notBy local (sideOf n)
-not-local zero = refl
-not-local (suc n) = eqb·suc-zero n
 
 pub taken-stores : (i : ℕ) (l : List ℕ) → takenFrom i l .store ≡ nothing
 taken-stores i [] = refl

@@ -4,19 +4,19 @@ ghost use mathlib.Core.Bool.{true, not};
 ghost use mathlib.Core.List.{List, [], _∷_};
 ghost use Prim.Native.Nat.{ℕ};
 ghost use Rattle.model.specs.Checks.{refusal, _for_};
-ghost use Rattle.model.specs.Sides.{sideOf, notBy};
+ghost use Rattle.model.specs.Sides.{sideOf};
 ghost use Rattle.model.specs.State.{World, above, directionCheck, transferChecks, sound};
 ghost use Rattle.model.specs.FifosAndFlags.{putter};
 ghost use Rattle.model.specs.Accesses as model;
 ghost use Rattle.model.specs.Accesses.{nonzero, rowOf};
 ghost use Rattle.access.specs.Words.{accessOf};
-ghost use Rattle.card.specs.Bridge.{transferAs, stateOf};
+ghost use Rattle.dma.specs.Bridge.{transferAs};
+ghost use Rattle.card.specs.Bridge.{stateOf};
 ghost use Rattle.card.specs.Did.{Did};
 use access::Access;
-use access::Answer;
 use card::Card;
 use card::Outcome;
-use card::Transfer;
+use dma::Transfer;
 
 // CHECKS
 
@@ -52,24 +52,17 @@ fn putter(fifo: u8) -> u8
     if (fifo == 0) | (fifo == 3) { 1 } else { 0 }
 }
 
-// Cause 5: the caller is another than the one side that may.
-fn wrong_side(may: u8, side: u8) -> bool
-    ensures { λ r. ⌜ r ≡ notBy (sideOf may) (sideOf side) ⌝ }
-{
-    if may == 0 { side != 0 } else { side == 0 }
-}
-
 fn take_refusal(q: Access) -> u8
     ensures { λ r. ⌜ ((w : World) → r ≡ refusal (rowOf model.take w (accessOf q) .checks)) ⌝ }
 {
-    let taker = card::other_side(putter(q.s));
+    let taker = access::other_side(putter(q.s));
     access::when(
         access::UNUSED_FIELD,
         access::nonzero(0, q.a, q.b, q.c),
         access::when(
             access::SELECTOR,
             3 < q.s,
-            access::when(access::WRONG_SIDE, wrong_side(taker, q.side), 0),
+            access::when(access::WRONG_SIDE, access::wrong_side(taker, q.side), 0),
         ),
     )
 }
@@ -83,7 +76,11 @@ fn put_refusal(q: Access) -> u8
         access::when(
             access::SELECTOR,
             3 < q.s,
-            access::when(access::WRONG_SIDE, wrong_side(putter(q.s), q.side), 0),
+            access::when(
+                access::WRONG_SIDE,
+                access::wrong_side(putter(q.s), q.side),
+                0,
+            ),
         ),
     )
 }
@@ -94,7 +91,7 @@ fn pin_refusal(q: Access) -> u8
     access::when(
         access::UNUSED_FIELD,
         access::nonzero(q.s, q.a, q.b, q.c),
-        access::when(access::WRONG_SIDE, wrong_side(1, q.side), 0),
+        access::when(access::WRONG_SIDE, access::wrong_side(1, q.side), 0),
     )
 }
 
@@ -102,7 +99,7 @@ fn pin_refusal(q: Access) -> u8
 fn start_refusal(transfer: Transfer, idle: bool) -> u8
     ensures { λ r. ⌜ r ≡ refusal (directionCheck (transferAs transfer) ∷ (6 for not idle) ∷ transferChecks (transferAs transfer)) ⌝ }
 {
-    let later = card::transfer_refusal(transfer);
+    let later = transfer.refusal();
     access::when(
         access::SELECTOR,
         1 < transfer.direction,
@@ -118,10 +115,7 @@ pub fn reset(card: Card, q: Access) -> Outcome
 {
     let n = no_field(q);
     if n != 0 {
-        return Outcome {
-            card: card,
-            answer: Answer::Refused(n),
-        };
+        return card.refused(n);
     }
     card.reset()
 }
@@ -132,10 +126,7 @@ pub fn take(card: Card, q: Access) -> Outcome
 {
     let n = take_refusal(q);
     if n != 0 {
-        return Outcome {
-            card: card,
-            answer: Answer::Refused(n),
-        };
+        return card.refused(n);
     }
     card.take(q.s as usize)
 }
@@ -146,10 +137,7 @@ pub fn put(card: Card, q: Access) -> Outcome
 {
     let n = put_refusal(q);
     if n != 0 {
-        return Outcome {
-            card: card,
-            answer: Answer::Refused(n),
-        };
+        return card.refused(n);
     }
     card.put(q.side, q.s as usize, q.b)
 }
@@ -160,10 +148,7 @@ pub fn claim(card: Card, q: Access) -> Outcome
 {
     let n = pair_only(q);
     if n != 0 {
-        return Outcome {
-            card: card,
-            answer: Answer::Refused(n),
-        };
+        return card.refused(n);
     }
     card.claim(q.side, q.s as usize)
 }
@@ -174,10 +159,7 @@ pub fn release(card: Card, q: Access) -> Outcome
 {
     let n = pair_only(q);
     if n != 0 {
-        return Outcome {
-            card: card,
-            answer: Answer::Refused(n),
-        };
+        return card.refused(n);
     }
     card.release(q.side, q.s as usize)
 }
@@ -188,10 +170,7 @@ pub fn mailbox_write(card: Card, q: Access) -> Outcome
 {
     let n = value_only(q);
     if n != 0 {
-        return Outcome {
-            card: card,
-            answer: Answer::Refused(n),
-        };
+        return card.refused(n);
     }
     card.write_mailbox(q.side, q.b)
 }
@@ -202,10 +181,7 @@ pub fn mailbox_read(card: Card, q: Access) -> Outcome
 {
     let n = no_field(q);
     if n != 0 {
-        return Outcome {
-            card: card,
-            answer: Answer::Refused(n),
-        };
+        return card.refused(n);
     }
     card.read_mailbox(q.side)
 }
@@ -217,10 +193,7 @@ pub fn interrupt_read(card: Card, q: Access) -> Outcome
 {
     let n = no_field(q);
     if n != 0 {
-        return Outcome {
-            card: card,
-            answer: Answer::Refused(n),
-        };
+        return card.refused(n);
     }
     card.read_register(q.side)
 }
@@ -231,10 +204,7 @@ pub fn interrupt_write(card: Card, q: Access) -> Outcome
 {
     let n = value_only(q);
     if n != 0 {
-        return Outcome {
-            card: card,
-            answer: Answer::Refused(n),
-        };
+        return card.refused(n);
     }
     card.write_register(q.side, q.b)
 }
@@ -245,10 +215,7 @@ pub fn line(card: Card, q: Access) -> Outcome
 {
     let n = no_field(q);
     if n != 0 {
-        return Outcome {
-            card: card,
-            answer: Answer::Refused(n),
-        };
+        return card.refused(n);
     }
     card.line(q.side)
 }
@@ -266,10 +233,7 @@ pub fn start(card: Card, q: Access) -> Outcome
     let dma = card.dma;
     let n = start_refusal(transfer, dma.is_idle());
     if n != 0 {
-        return Outcome {
-            card: card,
-            answer: Answer::Refused(n),
-        };
+        return card.refused(n);
     }
     card.start(transfer)
 }
@@ -280,10 +244,7 @@ pub fn external_pin(card: Card, q: Access) -> Outcome
 {
     let n = pin_refusal(q);
     if n != 0 {
-        return Outcome {
-            card: card,
-            answer: Answer::Refused(n),
-        };
+        return card.refused(n);
     }
     card.external_pin()
 }

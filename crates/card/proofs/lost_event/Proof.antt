@@ -1,5 +1,5 @@
 -- `card::lost_event` meets its contract: by the side.
-use Rattle.events.specs.SideNumbers.{side-host, side-local}
+use Rattle.model.specs.SideLaws.{side-host, side-local}
 use Rattle.card.proofs.lost_event.Statement.{statement}
 use Rattle.card.proofs.lost_event.Tie as tie
 

@@ -1,10 +1,9 @@
 -- `access` meets its contract: past the record and the side each arm of the match is one kind, and its promise is the kind's.
-use mathlib.Core.Path.{_≡_, refl, ap, sym, _∙_}
+use mathlib.Core.Path.{_≡_, refl, sym, _∙_}
 use denote.Ref.{now}
 use mathlib.Core.Bool.{true, false}
 use mathlib.Core.List.{List}
-use Prim.Native.Nat.{ℕ, _≤_}
-use native.Mathlib.Omega.{arith}
+use Prim.Native.Nat.{ℕ}
 use Rattle.model.specs.State.{above}
 use borrow.Author.Tests.{not-true, not-false, lt-ltb, le-ltb}
 use Rattle.model.specs.Accesses.{kindOf, fit}
@@ -34,14 +33,23 @@ plain c n l k r d = let a = c .before .before .before .before .before .before .a
 fits-requires : tie.Need-fits-requires
 fits-requires c κs = search needs
 
+refused-requires : tie.Need-refused-requires
+refused-requires c κs = search needs
+
 returns : tie.Need-returns
-returns c = let a = c .before .before .before .before .args in
-    unfit-arm (a .card) (a .q) (now (a .shared)) (now (a .window)) (sym (c .before .fits2 .ensures (now (a .shared)) (now (a .window)) refl refl) ∙ not-true _ (c .if1 .taken))
+returns c =
+    let f = c .before .before in
+    let a = f .before .before .before .args in
+    unfit-arm (a .card) (a .q) (now (a .shared)) (now (a .window)) _ (sym (f .fits2 .ensures (now (a .shared)) (now (a .window)) refl refl) ∙ not-true _ (c .before .if1 .taken)) (c .refused .ensures)
+
+refused-requires-2 : tie.Need-refused-requires-2
+refused-requires-2 c κs = search needs
 
 returns-2 : tie.Need-returns-2
-returns-2 c = let e = c .before .before in
+returns-2 c =
+    let e = c .before .before .before in
     let a = e .before .before .before .before .args in
-    side-arm (a .card) (a .q) (now (a .shared)) (now (a .window)) (fine e) (lt-ltb 1 _ (c .if2 .taken))
+    side-arm (a .card) (a .q) (now (a .shared)) (now (a .window)) _ (fine e) (lt-ltb 1 _ (c .before .if2 .taken)) (c .refused2 .ensures)
 
 reset-requires : tie.Need-reset-requires
 reset-requires c κs = search needs
@@ -103,6 +111,9 @@ step-requires c κs = fine (c .before .before .before .before .before)
 
 external-pin-requires : tie.Need-external-pin-requires
 external-pin-requires c κs = search needs
+
+refused-requires-3 : tie.Need-refused-requires-3
+refused-requires-3 c κs = search needs
 
 returns-3 : tie.Need-returns-3
 returns-3 c = plain (c .before .before) 0 refl (c .before .match .keys1) _ (c .reset .ensures)
@@ -187,16 +198,19 @@ returns-19 : tie.Need-returns-19
 returns-19 c = plain (c .before .before) 16 refl (c .before .match .keys17) _ (c .external-pin .ensures)
 
 returns-20 : tie.Need-returns-20
-returns-20 c = let e = c .before in
+returns-20 c =
+    let e = c .before .before in
     let a = e .before .before .before .before .before .before .args in
-    kind-arm (a .card) (a .q) (now (a .shared)) (now (a .window)) (fine (e .before .before)) (lt-ltb 16 _ (past (a .q .kind) 17 (c .match .rest)))
+    kind-arm (a .card) (a .q) (now (a .shared)) (now (a .window)) _ (fine (e .before .before)) (lt-ltb 16 _ (past (a .q .kind) 17 (c .before .match .rest))) (c .refused3 .ensures)
 
 pub access-spec : {M : Type 1} → statement M
 access-spec =
     tie.close
     (tie.spec
     fits-requires
+    refused-requires
     returns
+    refused-requires-2
     returns-2
     reset-requires
     shared-read-requires
@@ -215,6 +229,7 @@ access-spec =
     start-requires
     step-requires
     external-pin-requires
+    refused-requires-3
     returns-3
     same-length
     returns-4

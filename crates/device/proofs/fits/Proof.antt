@@ -1,4 +1,5 @@
--- `fits` meets its contract: its three tests are those of `fit`.
+-- `fits` meets its contract: its tests are those of `fit`.
+use mathlib.Core.Path.{_∙_}
 use Rattle.device.specs.Arms.{fit-is}
 use borrow.Author.Needs.{needs}
 use Rattle.device.proofs.fits.Statement.{statement}
@@ -7,12 +8,13 @@ use Rattle.device.proofs.fits.Tie as tie
 sound-requires : tie.Need-sound-requires
 sound-requires c κs = search needs
 
-cast-result : tie.Need-cast-result
-cast-result c = search needs
+lengths-fit-requires : tie.Need-lengths-fit-requires
+lengths-fit-requires c κs = search needs
 
 returns : tie.Need-returns
-returns c = let a = c .before .before .before .args in
-    λ m w p q. fit-is (a .card) m w _ (c .before .before .sound .ensures) _ _ p q
+returns c =
+    let a = c .before .before .before .args in
+    λ m w p q. fit-is (a .card) m w _ _ (c .before .before .sound .ensures) (c .lengths-fit .ensures ∙ rw (p, q))
 
 pub fits-spec : {M : Type 1} → statement M
-fits-spec = tie.close (tie.spec sound-requires cast-result returns)
+fits-spec = tie.close (tie.spec sound-requires lengths-fit-requires returns)

@@ -1,5 +1,5 @@
 -- `events::stored_mask` meets its contract: either side's mask is the constants joined.
-use Rattle.events.specs.SideNumbers.{side-host, side-local}
+use Rattle.model.specs.SideLaws.{side-host, side-local}
 use borrow.Author.Needs.{needs}
 use Rattle.events.proofs.stored_mask.Statement.{statement}
 use Rattle.events.proofs.stored_mask.Tie as tie

@@ -1,5 +1,5 @@
 -- `memories::shared_read` meets its contract: refused by its checks, or done as its row says.
-use Rattle.memories.specs.StoreLaws.{shared-placed}
+use Rattle.memories.specs.Rows.{shared-placed}
 use Rattle.card.specs.Did.{refused-did, done-did}
 use Rattle.card.specs.BridgeLaws.{unchanged}
 use Rattle.model.specs.Accesses as model

@@ -1,6 +1,6 @@
 -- `memories::shared_write` meets its contract: refused by its checks, or done as its row says.
-use Rattle.memories.specs.StoreLaws.{shared-placed, stored-did}
-use Rattle.card.specs.Did.{refused-did}
+use Rattle.memories.specs.Rows.{shared-placed}
+use Rattle.card.specs.Did.{refused-did, stored-did}
 use Rattle.model.specs.Accesses as model
 use native.Mathlib.Omega.{arith}
 use denote.Ref.{now}
@@ -48,7 +48,7 @@ returns-2 c =
     let r = e .before in
     let a = r .before .before .before .args in
     λ w. rw (c .done .ensures) (stored-did model.sharedWrite (a .card) (a .q) (now (a .shared)) w _ _ w (rw (← r .before .nonzero .ensures, ← r .shared-refusal .ensures) (e .if1 .left))
-    (record { answer = refl; state = refl; memories = record { shared = d .write-dword .ensures; window = refl } }))
+    (record { effected = record { answer = refl; state = refl }; memories = record { shared = d .write-dword .ensures; window = refl } }))
 
 pub shared-write-spec : {M : Type 1} → statement M
 shared-write-spec =

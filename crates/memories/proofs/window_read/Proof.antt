@@ -1,7 +1,7 @@
 -- `memories::window_read` meets its contract: refused by its checks, or done as its row says.
-use Rattle.memories.specs.StoreLaws.{window-placed}
+use Rattle.memories.specs.Rows.{window-placed}
 use Rattle.card.specs.Did.{refused-did, done-did}
-use Rattle.card.specs.Bridge.{settingsAs}
+use Rattle.settings.specs.Bridge.{settingsAs}
 use Rattle.card.specs.BridgeLaws.{settings-is, unchanged}
 use Rattle.model.specs.Sides.{sideOf}
 use Rattle.model.specs.Accesses as model

@@ -1,7 +1,7 @@
 -- `memories::window_write` meets its contract: refused by its checks, or done as its row says.
-use Rattle.memories.specs.StoreLaws.{window-placed, stored-did}
-use Rattle.card.specs.Did.{refused-did}
-use Rattle.card.specs.Bridge.{settingsAs}
+use Rattle.memories.specs.Rows.{window-placed}
+use Rattle.card.specs.Did.{refused-did, stored-did}
+use Rattle.settings.specs.Bridge.{settingsAs}
 use Rattle.card.specs.BridgeLaws.{settings-is}
 use Rattle.model.specs.Sides.{sideOf}
 use Rattle.model.specs.Accesses as model
@@ -57,7 +57,7 @@ returns-2 c =
     let r = e .before in
     let a = r .before .before .before .before .args in
     λ m. rw (c .done .ensures) (stored-did model.windowWrite (a .card) (a .q) m (now (a .window)) _ m _ (rw (settings-is (a .card), ← r .before .nonzero .ensures, ← r .window-refusal .ensures) (e .if1 .left))
-    (record { answer = refl; state = refl; memories = record { shared = refl; window = rw (d .write-dword .ensures, o .offset .ensures, settings-is (a .card)) } }))
+    (record { effected = record { answer = refl; state = refl }; memories = record { shared = refl; window = rw (d .write-dword .ensures, o .offset .ensures, settings-is (a .card)) } }))
 
 pub window-write-spec : {M : Type 1} → statement M
 window-write-spec =

@@ -16,11 +16,14 @@ use Rattle.registers.proofs.claim.Tie as tie
 pair-only-requires : tie.Need-pair-only-requires
 pair-only-requires c κs = search needs
 
+refused-requires : tie.Need-refused-requires
+refused-requires c κs = search needs
+
 returns : tie.Need-returns
 returns c =
-    let f = c .before in
+    let f = c .before .before in
     let a = f .before .args in
-    λ m w. refused-did model.claim (a .card) (a .q) m w _ (f .pair-only .ensures) (c .if1 .taken)
+    λ m w. rw (c .refused .ensures) (refused-did model.claim (a .card) (a .q) m w _ (f .pair-only .ensures) (c .before .if1 .taken))
 
 cast-claim : tie.Need-cast-claim
 cast-claim c = search needs
@@ -40,4 +43,4 @@ returns-2 c =
     λ m w. done-did model.claim (a .card) (a .q) m w _ (sym (f .pair-only .ensures) ∙ c .before .before .if1 .left) (claim-stores (sideOf (a .q .side)) (a .q .s) (pair (stateOf (a .card)) (a .q .s))) (c .claim .ensures)
 
 pub claim-spec : {M : Type 1} → statement M
-claim-spec = tie.close (tie.spec pair-only-requires returns cast-claim claim-requires returns-2)
+claim-spec = tie.close (tie.spec pair-only-requires refused-requires returns cast-claim claim-requires returns-2)

@@ -9,11 +9,14 @@ use Rattle.registers.proofs.external_pin.Tie as tie
 pin-refusal-requires : tie.Need-pin-refusal-requires
 pin-refusal-requires c κs = search needs
 
+refused-requires : tie.Need-refused-requires
+refused-requires c κs = search needs
+
 returns : tie.Need-returns
 returns c =
-    let f = c .before in
+    let f = c .before .before in
     let a = f .before .args in
-    λ m w. refused-did model.externalPin (a .card) (a .q) m w _ (f .pin-refusal .ensures (worldOf (a .card) m w)) (c .if1 .taken)
+    λ m w. rw (c .refused .ensures) (refused-did model.externalPin (a .card) (a .q) m w _ (f .pin-refusal .ensures (worldOf (a .card) m w)) (c .before .if1 .taken))
 
 external-pin-requires : tie.Need-external-pin-requires
 external-pin-requires c κs = search needs
@@ -26,4 +29,4 @@ returns-2 c =
 
 pub external-pin-spec : {M : Type 1} → statement M
 external-pin-spec =
-    tie.close (tie.spec pin-refusal-requires returns external-pin-requires returns-2)
+    tie.close (tie.spec pin-refusal-requires refused-requires returns external-pin-requires returns-2)

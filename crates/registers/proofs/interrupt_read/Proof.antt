@@ -9,11 +9,14 @@ use Rattle.registers.proofs.interrupt_read.Tie as tie
 no-field-requires : tie.Need-no-field-requires
 no-field-requires c κs = search needs
 
+refused-requires : tie.Need-refused-requires
+refused-requires c κs = search needs
+
 returns : tie.Need-returns
 returns c =
-    let f = c .before in
+    let f = c .before .before in
     let a = f .before .args in
-    λ m w. refused-did model.interruptRead (a .card) (a .q) m w _ (f .no-field .ensures) (c .if1 .taken)
+    λ m w. rw (c .refused .ensures) (refused-did model.interruptRead (a .card) (a .q) m w _ (f .no-field .ensures) (c .before .if1 .taken))
 
 read-register-requires : tie.Need-read-register-requires
 read-register-requires c κs = search needs
@@ -26,4 +29,4 @@ returns-2 c =
 
 pub interrupt-read-spec : {M : Type 1} → statement M
 interrupt-read-spec =
-    tie.close (tie.spec no-field-requires returns read-register-requires returns-2)
+    tie.close (tie.spec no-field-requires refused-requires returns read-register-requires returns-2)

@@ -16,11 +16,14 @@ use Rattle.registers.proofs.put.Tie as tie
 put-refusal-requires : tie.Need-put-refusal-requires
 put-refusal-requires c κs = search needs
 
+refused-requires : tie.Need-refused-requires
+refused-requires c κs = search needs
+
 returns : tie.Need-returns
 returns c =
-    let f = c .before in
+    let f = c .before .before in
     let a = f .before .args in
-    λ m w. refused-did model.put (a .card) (a .q) m w _ (f .put-refusal .ensures (worldOf (a .card) m w)) (c .if1 .taken)
+    λ m w. rw (c .refused .ensures) (refused-did model.put (a .card) (a .q) m w _ (f .put-refusal .ensures (worldOf (a .card) m w)) (c .before .if1 .taken))
 
 cast-put : tie.Need-cast-put
 cast-put c = search needs
@@ -40,4 +43,4 @@ returns-2 c =
     λ m w. done-did model.put (a .card) (a .q) m w _ (sym (f .put-refusal .ensures (worldOf (a .card) m w)) ∙ c .before .before .if1 .left) (put-stores (sideOf (a .q .side)) (a .q .s) (fifo (stateOf (a .card)) (a .q .s)) (a .q .b)) (c .put .ensures)
 
 pub put-spec : {M : Type 1} → statement M
-put-spec = tie.close (tie.spec put-refusal-requires returns cast-put put-requires returns-2)
+put-spec = tie.close (tie.spec put-refusal-requires refused-requires returns cast-put put-requires returns-2)

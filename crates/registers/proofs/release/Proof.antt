@@ -12,11 +12,14 @@ use Rattle.registers.proofs.release.Tie as tie
 pair-only-requires : tie.Need-pair-only-requires
 pair-only-requires c κs = search needs
 
+refused-requires : tie.Need-refused-requires
+refused-requires c κs = search needs
+
 returns : tie.Need-returns
 returns c =
-    let f = c .before in
+    let f = c .before .before in
     let a = f .before .args in
-    λ m w. refused-did model.release (a .card) (a .q) m w _ (f .pair-only .ensures) (c .if1 .taken)
+    λ m w. rw (c .refused .ensures) (refused-did model.release (a .card) (a .q) m w _ (f .pair-only .ensures) (c .before .if1 .taken))
 
 cast-release : tie.Need-cast-release
 cast-release c = search needs
@@ -37,4 +40,4 @@ returns-2 c =
 
 pub release-spec : {M : Type 1} → statement M
 release-spec =
-    tie.close (tie.spec pair-only-requires returns cast-release release-requires returns-2)
+    tie.close (tie.spec pair-only-requires refused-requires returns cast-release release-requires returns-2)

@@ -9,11 +9,14 @@ use Rattle.registers.proofs.reset.Tie as tie
 no-field-requires : tie.Need-no-field-requires
 no-field-requires c κs = search needs
 
+refused-requires : tie.Need-refused-requires
+refused-requires c κs = search needs
+
 returns : tie.Need-returns
 returns c =
-    let f = c .before in
+    let f = c .before .before in
     let a = f .before .args in
-    λ m w. refused-did model.reset (a .card) (a .q) m w _ (f .no-field .ensures) (c .if1 .taken)
+    λ m w. rw (c .refused .ensures) (refused-did model.reset (a .card) (a .q) m w _ (f .no-field .ensures) (c .before .if1 .taken))
 
 reset-requires : tie.Need-reset-requires
 reset-requires c κs = search needs
@@ -25,4 +28,4 @@ returns-2 c =
     λ m w. done-did model.reset (a .card) (a .q) m w _ (sym (f .no-field .ensures) ∙ c .before .if1 .left) refl (c .reset .ensures)
 
 pub reset-spec : {M : Type 1} → statement M
-reset-spec = tie.close (tie.spec no-field-requires returns reset-requires returns-2)
+reset-spec = tie.close (tie.spec no-field-requires refused-requires returns reset-requires returns-2)

@@ -14,12 +14,15 @@ is-idle-requires c κs = search needs
 start-refusal-requires : tie.Need-start-refusal-requires
 start-refusal-requires c κs = search needs
 
+refused-requires : tie.Need-refused-requires
+refused-requires c κs = search needs
+
 returns : tie.Need-returns
 returns c =
-    let f = c .before in
+    let f = c .before .before in
     let a = f .before .before .args in
     let t = transferOf (a .q .s) (a .q .a) (a .q .b) (a .q .c) in
-    λ m w. refused-did model.start (a .card) (a .q) m w _ (start-row (a .card) t _ _ (f .before .is-idle .ensures) (f .start-refusal .ensures)) (c .if1 .taken)
+    λ m w. rw (c .refused .ensures) (refused-did model.start (a .card) (a .q) m w _ (start-row (a .card) t _ _ (f .before .is-idle .ensures) (f .start-refusal .ensures)) (c .before .if1 .taken))
 
 start-requires : tie.Need-start-requires
 start-requires c κs = search needs
@@ -33,4 +36,4 @@ returns-2 c =
 
 pub start-spec : {M : Type 1} → statement M
 start-spec =
-    tie.close (tie.spec is-idle-requires start-refusal-requires returns start-requires returns-2)
+    tie.close (tie.spec is-idle-requires start-refusal-requires refused-requires returns start-requires returns-2)

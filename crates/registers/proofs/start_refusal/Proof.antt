@@ -3,8 +3,8 @@ use borrow.Author.Needs.{needs}
 use Rattle.registers.proofs.start_refusal.Statement.{statement}
 use Rattle.registers.proofs.start_refusal.Tie as tie
 
-transfer-refusal-requires : tie.Need-transfer-refusal-requires
-transfer-refusal-requires c κs = search needs
+refusal-requires : tie.Need-refusal-requires
+refusal-requires c κs = search needs
 
 when-requires : tie.Need-when-requires
 when-requires c κs = search needs
@@ -13,8 +13,8 @@ when-requires-2 : tie.Need-when-requires-2
 when-requires-2 c κs = search needs
 
 returns : tie.Need-returns
-returns c = rw (c .when2 .ensures, c .before .when .ensures, c .before .before .before .transfer-refusal .ensures)
+returns c = rw (c .when2 .ensures, c .before .when .ensures, c .before .before .before .refusal .ensures)
 
 pub start-refusal-spec : {M : Type 1} → statement M
 start-refusal-spec =
-    tie.close (tie.spec transfer-refusal-requires when-requires when-requires-2 returns)
+    tie.close (tie.spec refusal-requires when-requires when-requires-2 returns)

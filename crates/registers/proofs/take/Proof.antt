@@ -15,11 +15,14 @@ use Rattle.registers.proofs.take.Tie as tie
 take-refusal-requires : tie.Need-take-refusal-requires
 take-refusal-requires c κs = search needs
 
+refused-requires : tie.Need-refused-requires
+refused-requires c κs = search needs
+
 returns : tie.Need-returns
 returns c =
-    let f = c .before in
+    let f = c .before .before in
     let a = f .before .args in
-    λ m w. refused-did model.take (a .card) (a .q) m w _ (f .take-refusal .ensures (worldOf (a .card) m w)) (c .if1 .taken)
+    λ m w. rw (c .refused .ensures) (refused-did model.take (a .card) (a .q) m w _ (f .take-refusal .ensures (worldOf (a .card) m w)) (c .before .if1 .taken))
 
 cast-take : tie.Need-cast-take
 cast-take c = search needs
@@ -39,4 +42,4 @@ returns-2 c =
     λ m w. done-did model.take (a .card) (a .q) m w _ (sym (f .take-refusal .ensures (worldOf (a .card) m w)) ∙ c .before .before .if1 .left) (taken-stores (a .q .s) (fifo (stateOf (a .card)) (a .q .s))) (c .take .ensures)
 
 pub take-spec : {M : Type 1} → statement M
-take-spec = tie.close (tie.spec take-refusal-requires returns cast-take take-requires returns-2)
+take-spec = tie.close (tie.spec take-refusal-requires refused-requires returns cast-take take-requires returns-2)

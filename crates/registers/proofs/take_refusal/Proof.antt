@@ -28,7 +28,7 @@ returns : tie.Need-returns
 returns c =
     let s = c .before .before .before in
     let z = s .before .before in
-    λ w. rw (c .when3 .ensures, c .before .when2 .ensures, c .before .before .when .ensures, s .wrong-side .ensures, z .before .other-side .ensures, z .before .before .putter .ensures, z .nonzero .ensures)
+    λ w. rw (c .when3 .ensures, c .before .when2 .ensures, c .before .before .when .ensures, s .wrong-side .ensures, z .before .other-side .ensures .0, z .before .before .putter .ensures, z .nonzero .ensures)
 
 pub take-refusal-spec : {M : Type 1} → statement M
 take-refusal-spec =

@@ -1,10 +1,11 @@
 -- `source` meets its contract: by cases of the refusal and the direction, the part is the model's and lies in its memory.
+use mathlib.Core.Path.{refl}
 use native.Mathlib.Omega.{arith}
 use native.Mathlib.Nat.{add-sub-cancel-left}
 use denote.Ref.{now}
 use Rattle.model.specs.Accesses.{transferOf}
-use Rattle.card.specs.Bridge.{settingsAs}
-use Rattle.source.specs.SourceLaws.{Cases, cases}
+use Rattle.settings.specs.Bridge.{settingsAs}
+use Rattle.source.specs.PartLaws.{Cases, cases}
 use borrow.Author.Needs.{needs}
 use Rattle.source.proofs.source.Statement.{statement}
 use Rattle.source.proofs.source.Tie as tie
@@ -15,7 +16,7 @@ known : (c : tie.After-refusal-of) →
     Cases (settingsAs (a .settings)) (now (a .shared)) (now (a .window)) (transferOf (a .direction) (a .a) (a .b) (a .c)) (c .refusal-of .result)
 known c =
     let a = c .before .before .before .args in
-    cases (settingsAs (a .settings)) (now (a .shared)) (now (a .window)) (transferOf (a .direction) (a .a) (a .b) (a .c)) _ (c .refusal-of .ensures)
+    cases (settingsAs (a .settings)) (now (a .shared)) (now (a .window)) (transferOf (a .direction) (a .a) (a .b) (a .c)) _ (c .refusal-of .ensures (now (a .shared)) (now (a .window)) refl refl)
 
 refusal-of-requires : tie.Need-refusal-of-requires
 refusal-of-requires c κs = search needs
@@ -32,13 +33,10 @@ part-result-end c = search needs
 returns : tie.Need-returns
 returns c = rw (known (c .before .before) .refused (c .before .if1 .taken))
 
-sub-from : tie.Need-sub-from
-sub-from c =
-    let pass = c .before .before in
-    omega (arith, known (pass .before) .windowHolds (pass .if1 .left) (c .before .if2 .taken))
-
-cast-from : tie.Need-cast-from
-cast-from c = search needs
+offset-requires : tie.Need-offset-requires
+offset-requires c κs =
+    let pass = c .before in
+    known (pass .before) .windowHolds (pass .if1 .left) (c .if2 .taken) .0
 
 add-end : tie.Need-add-end
 add-end c = search needs
@@ -52,12 +50,13 @@ part-result-start-2 c = search needs
 part-result-end-2 : tie.Need-part-result-end-2
 part-result-end-2 c =
     let pass = c .before .before in
-    omega (arith, known (pass .before) .windowHolds (pass .if1 .left) (c .before .if2 .taken))
+    omega (arith, known (pass .before) .windowHolds (pass .if1 .left) (c .before .if2 .taken), c .offset .ensures)
 
 returns-2 : tie.Need-returns-2
 returns-2 c =
-    let pass = c .before .before .before in
-    rw (known (pass .before) .inWindow (pass .if1 .left) (c .before .before .if2 .taken), add-sub-cancel-left)
+    let o = c .before in
+    let pass = o .before .before in
+    rw (known (pass .before) .inWindow (pass .if1 .left) (o .before .if2 .taken), o .offset .ensures, add-sub-cancel-left)
 
 add-end-2 : tie.Need-add-end-2
 add-end-2 c = search needs
@@ -87,8 +86,7 @@ source-spec =
     part-result-start
     part-result-end
     returns
-    sub-from
-    cast-from
+    offset-requires
     add-end
     sub-result-2
     part-result-start-2

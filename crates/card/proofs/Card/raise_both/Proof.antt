@@ -1,21 +1,16 @@
--- `card::Card::raise_both` meets its contract: in one register, then in the other.
-use mathlib.Core.Path.{ap, _∙_}
-use Rattle.model.specs.Sides.{local}
-use Rattle.model.specs.Changes.{onRegister}
-use Rattle.events.specs.Registers.{raisedAll}
+-- `card::Card::raise_both` meets its contract: both registers changed.
+use Rattle.card.specs.BridgeLaws.{both-raised}
 use borrow.Author.Needs.{needs}
 use Rattle.card.proofs.Card.raise_both.Statement.{statement}
 use Rattle.card.proofs.Card.raise_both.Tie as tie
 
-raise-requires : tie.Need-raise-requires
-raise-requires c κs = search needs
-
-raise-requires-2 : tie.Need-raise-requires-2
-raise-requires-2 c κs = search needs
+raise-both-requires : tie.Need-raise-both-requires
+raise-both-requires c κs = search needs
 
 returns : tie.Need-returns
 returns c =
-    c .raise2 .ensures ∙ ap (onRegister local (raisedAll (c .before .before .args .events .0))) (c .before .raise .ensures)
+    let a = c .before .before .args in
+    both-raised (a .self) (a .events .0) (c .raise-both .result) (c .raise-both .ensures)
 
 pub raise-both-spec : {M : Type 1} → statement M
-raise-both-spec = tie.close (tie.spec raise-requires raise-requires-2 returns)
+raise-both-spec = tie.close (tie.spec raise-both-requires returns)

@@ -19,7 +19,7 @@ returns c =
     let e = c .before .before in
     let w = e .before in
     let a = w .before .before .args in
-    mail-rung (a .self) (sideOf (a .side)) (a .value) (w .write .result) (w .write .ensures) (sideOf (c .before .other-side .result)) (c .raise .result) (e .if1 .taken) (c .before .other-side .ensures) (c .raise .ensures)
+    mail-rung (a .self) (sideOf (a .side)) (a .value) (w .write .result) (w .write .ensures) (sideOf (c .before .other-side .result)) (c .raise .result) (e .if1 .taken) (c .before .other-side .ensures .0) (c .raise .ensures)
 
 returns-2 : tie.Need-returns-2
 returns-2 c =

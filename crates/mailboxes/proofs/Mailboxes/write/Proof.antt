@@ -1,0 +1,13 @@
+-- `mailboxes::Mailboxes::write` meets its contract: by the side.
+use Rattle.model.specs.SideLaws.{side-host, side-local}
+use Rattle.mailboxes.proofs.Mailboxes.write.Statement.{statement}
+use Rattle.mailboxes.proofs.Mailboxes.write.Tie as tie
+
+returns : tie.Need-returns
+returns c = rw (side-host _ (c .if1 .taken))
+
+returns-2 : tie.Need-returns-2
+returns-2 c = rw (side-local _ (c .if1 .left))
+
+pub write-spec : {M : Type 1} → statement M
+write-spec = tie.close (tie.spec returns returns-2)

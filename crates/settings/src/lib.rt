@@ -1,0 +1,67 @@
+// Document 01, "The part we model": the settings, and what they say of PCI addresses and of the memories lent.
+ghost use mathlib.Core.Path.{_≡_};
+ghost use mathlib.Core.Bool.{_&&_};
+ghost use Prim.Native.Nat.{_+_, _-_, _≤_};
+ghost use lib.Dec.{eqb};
+ghost use Rattle.model.specs.State.{misplaced, sharedLength, settingsPass};
+ghost use Rattle.model.specs.Steps.{inAbortRange};
+ghost use Rattle.settings.specs.Bridge.{settingsAs};
+
+// "Window base, window length, and a target-abort range given as two offsets lo and hi (lo included, hi not)."
+pub struct Settings {
+    pub base: u32,
+    pub length: u32,
+    pub lo: u32,
+    pub hi: u32,
+}
+
+impl Settings {
+    // "They pass if all are multiples of 4, length is at most 65,536, base + length is at most 4,294,967,296, and lo <= hi <= length."
+    pub fn pass(self) -> bool
+        ensures { λ r. ⌜ r ≡ settingsPass (settingsAs self) ⌝ }
+    {
+        let end = self.base as u64 + self.length as u64;
+        (self.base % 4 == 0)
+            & ((self.length % 4 == 0)
+                & ((self.lo % 4 == 0)
+                    & ((self.hi % 4 == 0)
+                        & ((self.length <= 65536)
+                            & ((end <= 4294967296)
+                                & ((self.lo <= self.hi) & (self.hi <= self.length)))))))
+    }
+
+    // What cause 1 asks of the memories: "shared memory not 16,384 bytes, or window not of the set length".
+    pub fn lengths_fit(self, shared: usize, window: usize) -> bool
+        ensures { λ r. ⌜ r ≡ (eqb shared sharedLength && eqb window (self .length)) ⌝ }
+    {
+        (shared == 16384) & (window == self.length as usize)
+    }
+
+    // A PCI address that is no multiple of 4, or from which so many bytes leave the window.
+    pub fn outside_window(self, at: u32, count: u32) -> bool
+        ensures { λ r. ⌜ r ≡ misplaced at count (self .base) (self .base + self .length) ⌝ }
+    {
+        let base = self.base as u64;
+        let length = self.length as u64;
+        access::misplaced(at, count, base, base + length)
+    }
+
+    // The place in the window of a PCI address that lies in it.
+    pub fn offset(self, at: u32) -> usize
+        requires { ⌜ self .base ≤ at ⌝ }
+        ensures { λ r. ⌜ r ≡ at - self .base ⌝ }
+    {
+        (at - self.base) as usize
+    }
+
+    // "Lo included, hi not."
+    pub fn in_abort_range(self, at: u32) -> bool
+        ensures { λ r. ⌜ r ≡ inAbortRange (settingsAs self) at ⌝ }
+    {
+        let pci = at as u64;
+        let base = self.base as u64;
+        let from = base + self.lo as u64;
+        let to = base + self.hi as u64;
+        (from <= pci) & (pci < to)
+    }
+}
