@@ -115,6 +115,12 @@ impl Card {
         }
     }
 
+    /// Enables and status of HINT, then of LINT.
+    pub fn registers(&self) -> [u32; 4] {
+        let (hint, lint) = (&self.hint, &self.lint);
+        [hint.enables, hint.status, lint.enables, lint.status]
+    }
+
     /// "Events 0, 1, 5, 8, 9 are raised in both registers."
     pub fn raise_in_both(&mut self, events: u32) {
         self.hint.status |= events;

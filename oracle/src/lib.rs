@@ -4,6 +4,7 @@
 pub mod access;
 pub mod arbitrary;
 pub mod card;
+mod decimal;
 mod drive;
 pub mod dword;
 pub mod interrupts;

@@ -29,6 +29,11 @@ impl Settings {
         }
     }
 
+    /// Base, length, lo and hi.
+    pub fn numbers(&self) -> [u32; 4] {
+        [self.base, self.length, self.lo, self.hi]
+    }
+
     /// "They pass if all are multiples of 4, length is at most 65,536, base + length is at most
     /// 4,294,967,296, and lo <= hi <= length."
     pub fn pass(&self) -> bool {

@@ -127,15 +127,10 @@ fn a_transfer_moves_its_source_within_its_steps() {
         };
         let size = 4 + 4 * rng.below(8);
         let pci = settings.base.wrapping_add(4 * rng.below(36));
-        let transfer = Transfer::new(rng.below(2) as u8, 4 * rng.below(4000), pci, size);
+        let (direction, shared) = (rng.below(2) as u8, 4 * rng.below(4000));
+        let transfer = Transfer::new(direction, shared, pci, size);
         let part = source(settings, &world.shared, &world.window, transfer);
         let expected = part.of(&world.shared, &world.window).to_vec();
-        let Transfer {
-            direction,
-            shared,
-            pci,
-            size,
-        } = transfer;
         let start = Access::new(kind::START, 0, direction, shared, pci, size);
         if world.access(start) != Answer::done(size / 4, 0) {
             assert_eq!(part, Part::REFUSED);

@@ -3,7 +3,8 @@
 //! stdin: cases of 6 bytes: mode, pins, data (4 bytes, least byte first).
 //! stdout: for each a line with number, lanes and dword.
 
-use crate::pins::{decode, Decoded};
+use crate::decimal::line;
+use crate::pins::decode;
 use crate::rng::Rng;
 
 use super::Program;
@@ -59,12 +60,7 @@ pub fn program() -> Program {
     for (mode, pins, data) in cases() {
         stdin.extend([mode, pins]);
         stdin.extend(data.to_le_bytes());
-        let Decoded {
-            number,
-            lanes,
-            dword,
-        } = decode(mode, pins, data);
-        stdout += &format!("{number} {lanes} {dword}\n");
+        stdout += &line(decode(mode, pins, data).numbers());
     }
     Program {
         name: "pins_test",

@@ -6,6 +6,7 @@
 //! number after the expected one.
 
 use crate::access::Access;
+use crate::decimal::decimal;
 use crate::rng::Rng;
 use crate::trace::{next_number, read, record, refused, RECORD};
 
@@ -170,17 +171,7 @@ fn random(cases: &mut Cases) {
 fn line(case: &Case) -> String {
     let next = next_number(case.expected);
     match read(&case.bytes, case.expected) {
-        Ok(access) => {
-            let Access {
-                kind,
-                side,
-                s,
-                a,
-                b,
-                c,
-            } = access;
-            format!("0 {kind} {side} {s} {a} {b} {c} {next}\n")
-        }
+        Ok(access) => format!("0 {} {next}\n", decimal(access.numbers())),
         Err(number) => format!("{number} {next}\n"),
     }
 }

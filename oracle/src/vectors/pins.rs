@@ -1,6 +1,7 @@
 //! Every mode with all pins, and what is refused.
 
-use crate::pins::{decode, Decoded};
+use crate::decimal::decimal;
+use crate::pins::decode;
 
 use super::text;
 
@@ -43,12 +44,8 @@ fn cases() -> Vec<(u8, u8, u32)> {
 }
 
 fn line(mode: u8, pins: u8, data: u32) -> String {
-    let Decoded {
-        number,
-        lanes,
-        dword,
-    } = decode(mode, pins, data);
-    format!("pinCase {mode} {pins} {data} {number} {lanes} {dword}")
+    let decoded = decimal(decode(mode, pins, data).numbers());
+    format!("pinCase {mode} {pins} {data} {decoded}")
 }
 
 pub fn text() -> String {

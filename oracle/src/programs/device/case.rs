@@ -1,7 +1,8 @@
 //! One case: its numbers, and what is answered.
 
-use crate::access::{Access, Answer};
+use crate::access::Access;
 use crate::card::{fresh, Card, FIFO_DEPTH};
+use crate::decimal::line;
 use crate::drive::plans::First;
 use crate::settings::Settings;
 use crate::source::source;
@@ -106,8 +107,7 @@ impl Case {
                 }
                 let mut world = first.world(memories.shared(), memories.window());
                 for access in accesses {
-                    let Answer { number, v, x } = world.access(*access);
-                    text += &line([number.into(), v, x]);
+                    text += &line(world.access(*access).numbers());
                 }
                 text + &world_text(&world)
             }
@@ -129,12 +129,13 @@ impl Case {
 }
 
 fn head(what: u32, settings: &Settings, memories: &Memories, count: usize) -> Vec<u32> {
+    let [base, length, lo, hi] = settings.numbers();
     vec![
         what,
-        settings.base,
-        settings.length,
-        settings.lo,
-        settings.hi,
+        base,
+        length,
+        lo,
+        hi,
         memories.shared_length,
         memories.window_length,
         memories.seed,
@@ -150,7 +151,7 @@ fn record(card: &Card, numbers: &mut Vec<u32>) {
     let pairs = card.pairs.iter();
     numbers.extend(pairs.map(|pair| u32::from(pair.host) + 2 * u32::from(pair.local)));
     numbers.extend(mailboxes(card));
-    numbers.extend(registers(card));
+    numbers.extend(card.registers());
     let mut transfer = running(card);
     transfer.resize(6, 0);
     numbers.extend(transfer);
@@ -161,41 +162,29 @@ fn mailboxes(card: &Card) -> [u32; 3] {
     [mail.hldata, mail.lhdata, mail.written.into()]
 }
 
-fn registers(card: &Card) -> [u32; 4] {
-    let (hint, lint) = (&card.hint, &card.lint);
-    [hint.enables, hint.status, lint.enables, lint.status]
-}
-
 /// 0, or 1 and the numbers of the transfer that runs.
 fn running(card: &Card) -> Vec<u32> {
     let Some(Running { transfer, moved }) = card.running else {
         return vec![0];
     };
-    let Transfer {
-        direction,
-        shared,
-        pci,
-        size,
-    } = transfer;
-    vec![1, direction.into(), shared, pci, size, moved]
+    let [direction, shared, pci, size] = transfer.numbers();
+    vec![1, direction, shared, pci, size, moved]
 }
 
 fn access(access: &Access) -> [u32; 4] {
-    let Access { kind, side, s, .. } = *access;
-    let packed = u32::from_le_bytes([kind, side, s, 0]);
-    [packed, access.a, access.b, access.c]
+    let [kind, side, s, a, b, c] = access.numbers();
+    [kind | side << 8 | s << 16, a, b, c]
 }
 
 fn request(transfer: &Transfer) -> [u32; 4] {
-    let packed = u32::from_le_bytes([0, 0, transfer.direction, 0]);
-    [packed, transfer.shared, transfer.pci, transfer.size]
+    let [direction, shared, pci, size] = transfer.numbers();
+    [direction << 16, shared, pci, size]
 }
 
 /// The record and the digests.
 fn world_text(world: &World) -> String {
     let card = &world.card;
-    let settings = &card.settings;
-    let mut text = line([settings.base, settings.length, settings.lo, settings.hi]);
+    let mut text = line(card.settings.numbers());
     for fifo in &card.fifos {
         let held = fifo.iter().take(FIFO_DEPTH).copied();
         text += &line([fifo.len() as u32].into_iter().chain(held));
@@ -203,12 +192,7 @@ fn world_text(world: &World) -> String {
     let flags = card.pairs.iter().flat_map(|pair| [pair.host, pair.local]);
     text += &line(flags.map(u32::from));
     text += &line(mailboxes(card));
-    text += &line(registers(card));
+    text += &line(card.registers());
     text += &line(running(card));
     text + &line([digest(&world.shared), digest(&world.window)])
-}
-
-fn line(numbers: impl IntoIterator<Item = u32>) -> String {
-    let numbers: Vec<String> = numbers.into_iter().map(|n| n.to_string()).collect();
-    format!("{}\n", numbers.join(" "))
 }
