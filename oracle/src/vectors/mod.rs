@@ -2,7 +2,7 @@
 //! definitions.
 
 pub mod fresh;
-mod pins;
+pub mod pins;
 mod runs;
 pub mod sound;
 pub mod source;

@@ -5,7 +5,8 @@ use crate::pins::decode;
 
 use super::text;
 
-const DATA: [u32; 6] = [
+/// Data words: none and all of the bits, and bytes that differ from each other.
+pub const DATA: [u32; 6] = [
     0x0000_0000,
     0xFFFF_FFFF,
     0x1234_5678,
@@ -13,6 +14,9 @@ const DATA: [u32; 6] = [
     0x0000_ABCD,
     0x8040_2010,
 ];
+
+/// The data of a refusal, which answers a dword of 0 whatever they are.
+pub const REFUSED_DATA: [u32; 2] = [0, 0xA1B2_C3D4];
 
 const REFUSED: [(u8, u8); 12] = [
     (4, 0),
@@ -37,8 +41,7 @@ fn cases() -> Vec<(u8, u8, u32)> {
         }
     }
     for (mode, pins) in REFUSED {
-        cases.push((mode, pins, 0));
-        cases.push((mode, pins, 0xA1B2_C3D4));
+        cases.extend(REFUSED_DATA.map(|data| (mode, pins, data)));
     }
     cases
 }
