@@ -1,6 +1,7 @@
 //! The trace reader, and the replay on document 01's whole case and on damaged traces.
 
 use oracle::access::{kind, Access};
+use oracle::arbitrary;
 use oracle::replay;
 use oracle::rng::Rng;
 use oracle::trace::{next_number, read, record, trace};
@@ -103,14 +104,7 @@ fn a_record_is_read_back() {
     let mut rng = Rng::new(8);
     for _ in 0..1000 {
         let number = rng.word() as u16;
-        let access = Access {
-            kind: rng.byte(),
-            side: rng.byte(),
-            s: rng.byte(),
-            a: rng.word(),
-            b: rng.word(),
-            c: rng.word(),
-        };
+        let access = arbitrary::access(&mut rng);
         let mut bytes = record(number, &access).to_vec();
         assert_eq!(read(&bytes, number), Ok(access));
         bytes.extend([0xEE; 7]);

@@ -6,6 +6,7 @@
 //! number after the expected one.
 
 use crate::access::Access;
+use crate::arbitrary;
 use crate::decimal::decimal;
 use crate::rng::Rng;
 use crate::trace::{next_number, read, record, refused, RECORD};
@@ -150,14 +151,7 @@ fn random(cases: &mut Cases) {
     let mut rng = Rng::new(SEED);
     for _ in 0..90 {
         let number = rng.word() as u16;
-        let access = Access {
-            kind: rng.byte(),
-            side: rng.byte(),
-            s: rng.byte(),
-            a: rng.word(),
-            b: rng.word(),
-            c: rng.word(),
-        };
+        let access = arbitrary::access(&mut rng);
         let mut bytes = record(number, &access);
         if rng.one_in(3) {
             for _ in 0..2 {
