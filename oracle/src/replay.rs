@@ -2,7 +2,7 @@
 
 use std::io::{self, BufRead, BufReader, BufWriter, Read, Write};
 
-use crate::access::Answer;
+use crate::access::{kind, Access, Answer};
 use crate::settings::Settings;
 use crate::trace::{self, RECORD};
 use crate::transfer::SHARED_LENGTH;
@@ -13,6 +13,13 @@ const BUFFER: usize = 1 << 16;
 
 /// The most digits of a number.
 const DIGITS: usize = 20;
+
+/// "Whole case: local kind 9 with B 16,777,216; host kind 10; host kind 15."
+pub const WHOLE_CASE: [Access; 3] = [
+    Access::new(kind::MAILBOX_WRITE, 1, 0, 0, 16_777_216, 0),
+    Access::new(kind::MAILBOX_READ, 0, 0, 0, 0, 0),
+    Access::new(kind::STEP, 0, 0, 0, 0, 0),
+];
 
 /// A fresh card with the replay's settings between zeroed memories.
 pub fn bench() -> World {

@@ -2,16 +2,9 @@
 
 use oracle::access::{kind, Access};
 use oracle::arbitrary;
-use oracle::replay;
+use oracle::replay::{self, WHOLE_CASE};
 use oracle::rng::Rng;
 use oracle::trace::{next_number, read, record, trace};
-
-/// "local kind 9 with B 16,777,216; host kind 10; host kind 15"
-const WHOLE_CASE: [Access; 3] = [
-    Access::new(kind::MAILBOX_WRITE, 1, 0, 0, 16_777_216, 0),
-    Access::new(kind::MAILBOX_READ, 0, 0, 0, 0, 0),
-    Access::new(kind::STEP, 0, 0, 0, 0, 0),
-];
 
 fn text(trace: &[u8]) -> String {
     String::from_utf8(replay::text(trace)).unwrap()

@@ -5,7 +5,6 @@ pub mod lessons;
 mod long;
 mod short;
 
-use crate::access::{kind, Access};
 use crate::replay::text;
 use crate::trace::{trace, RECORD};
 
@@ -33,13 +32,6 @@ pub fn programs() -> [Program; 2] {
 pub fn long_trace(records: usize) -> Vec<u8> {
     trace(&long::accesses(records))
 }
-
-/// "Whole case: local kind 9 with B 16,777,216; host kind 10; host kind 15."
-const WHOLE_CASE: [Access; 3] = [
-    Access::new(kind::MAILBOX_WRITE, 1, 0, 0, 16_777_216, 0),
-    Access::new(kind::MAILBOX_READ, 0, 0, 0, 0, 0),
-    Access::new(kind::STEP, 0, 0, 0, 0, 0),
-];
 
 fn on_trace(name: &'static str, stdin: Vec<u8>) -> Program {
     let stdout = text(&stdin);

@@ -2,11 +2,11 @@
 
 use crate::drive::builder::Builder;
 use crate::drive::coverage::Coverage;
-use crate::replay::bench;
+use crate::replay::{bench, WHOLE_CASE};
 use crate::rng::Rng;
 use crate::trace::trace;
 
-use super::{long, WHOLE_CASE};
+use super::long;
 
 const SEED: u64 = 600;
 
