@@ -16,6 +16,13 @@ struct Program {
     stdout: Vec<u8>,
 }
 
+/// Changes bytes of a trace record: of each its place, and the bits that change.
+fn change_bits(record: &mut [u8], changes: &[(usize, u8)]) {
+    for (at, bits) in changes {
+        record[*at] ^= bits;
+    }
+}
+
 /// Every program's files.
 pub fn files() -> Vec<Stored> {
     let programs = [pins::program(), trace::program(), device::program()];

@@ -11,7 +11,7 @@ use crate::decimal::decimal;
 use crate::rng::Rng;
 use crate::trace::{next_number, read, record, refused, RECORD};
 
-use super::Program;
+use super::{change_bits, Program};
 
 const SEED: u64 = 300;
 /// The most bytes that a case reads.
@@ -41,9 +41,7 @@ impl Cases {
     /// A whole record with some bytes changed by their bits.
     fn changed(&mut self, expected: u16, changes: &[(usize, u8)]) {
         let mut bytes = record(expected, &EVERY_BYTE);
-        for (at, bits) in changes {
-            bytes[*at] ^= bits;
-        }
+        change_bits(&mut bytes, changes);
         self.add(expected, &bytes);
     }
 

@@ -3,12 +3,12 @@
 
 use std::collections::BTreeSet;
 
-use crate::access::Access;
-use crate::drive::builder::Builder;
-use crate::drive::coverage::Coverage;
-use crate::replay::{bench, text};
-use crate::rng::Rng;
+use crate::access::{kind, Access};
+use crate::replay::text;
 use crate::trace::{refused, trace, RECORD};
+
+use super::super::change_bits;
+use super::scripted;
 
 const SEED: u64 = 700;
 /// The replay program reads 65,520 bytes at a time: so many records.
@@ -40,7 +40,7 @@ const BORDER_CHANGES: [(usize, usize); 5] = [
 
 /// Between them they end in every required line, or this panics.
 pub fn traces() -> Vec<Vec<u8>> {
-    let few = trace(&random(FEW, SEED));
+    let few = random(FEW, SEED);
     let mut traces = Vec::new();
     lengths(&few, &mut traces);
     changes(&few, &mut traces);
@@ -52,20 +52,13 @@ pub fn traces() -> Vec<Vec<u8>> {
 }
 
 /// Random accesses to a fresh card.
-fn random(count: usize, seed: u64) -> Vec<Access> {
-    let mut coverage = Coverage::default();
-    let mut builder = Builder::new(bench(), Rng::new(seed), &mut coverage);
-    for _ in 0..count {
-        builder.random();
-    }
-    builder.accesses()
+fn random(records: usize, seed: u64) -> Vec<u8> {
+    scripted(seed, |b| (0..records).for_each(|_| b.random()))
 }
 
 fn changed(trace: &[u8], record: usize, changes: &[(usize, u8)]) -> Vec<u8> {
     let mut trace = trace.to_vec();
-    for (at, bits) in changes {
-        trace[RECORD * record + at] ^= bits;
-    }
+    change_bits(&mut trace[RECORD * record..], changes);
     trace
 }
 
@@ -111,7 +104,7 @@ fn lost_and_doubled(few: &[u8], traces: &mut Vec<Vec<u8>>) {
 
 /// Ends in, at and behind the end of a piece, and changes in the records around it.
 fn borders(traces: &mut Vec<Vec<u8>>) {
-    let whole = trace(&random(2 * PIECE + 1, SEED + 1));
+    let whole = random(2 * PIECE + 1, SEED + 1);
     let piece = RECORD * PIECE;
     for length in [piece - 10, piece, piece + 1, piece + 20, 2 * piece + 1] {
         traces.push(whole[..length].to_vec());
@@ -125,7 +118,7 @@ fn borders(traces: &mut Vec<Vec<u8>>) {
 /// The record number starts again at 0, and what is counted goes on.
 fn past_the_last_number(traces: &mut Vec<Vec<u8>>) {
     let records = usize::from(u16::MAX) + 3;
-    let reads = vec![Access::new(13, 0, 0, 0, 0, 0); records];
+    let reads = vec![Access::new(kind::LINE, 0, 0, 0, 0, 0); records];
     let last = records - 1;
     traces.push(changed(&trace(&reads), last, &[(2, 0xFF), (3, 0xFF)]));
 }

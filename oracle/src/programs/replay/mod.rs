@@ -5,7 +5,10 @@ pub mod lessons;
 mod long;
 mod short;
 
-use crate::replay::text;
+use crate::drive::builder::Builder;
+use crate::drive::coverage::Coverage;
+use crate::replay::{bench, text};
+use crate::rng::Rng;
 use crate::trace::{trace, RECORD};
 
 use super::Program;
@@ -31,6 +34,14 @@ pub fn programs() -> [Program; 2] {
 /// A trace of so many records, at least `FEWEST`, every kind done and refused among them.
 pub fn long_trace(records: usize) -> Vec<u8> {
     trace(&long::accesses(records))
+}
+
+/// The trace of what a script does to a fresh card. Nobody asks what it reaches.
+fn scripted(seed: u64, script: impl FnOnce(&mut Builder)) -> Vec<u8> {
+    let mut coverage = Coverage::default();
+    let mut builder = Builder::new(bench(), Rng::new(seed), &mut coverage);
+    script(&mut builder);
+    trace(&builder.accesses())
 }
 
 fn on_trace(name: &'static str, stdin: Vec<u8>) -> Program {
