@@ -3,7 +3,7 @@
 use std::ops::Range;
 
 /// Highest window length that passes.
-const LENGTH_LIMIT: u32 = 65_536;
+pub const LENGTH_LIMIT: u32 = 65_536;
 /// One past the last PCI address.
 pub const PCI_SPACE: u64 = 4_294_967_296;
 

@@ -11,7 +11,7 @@ use crate::drive::faults::faultless;
 use crate::drive::plans::{plans, First};
 use crate::refusal::{LAST_KIND, PUT_BY};
 use crate::rng::Rng;
-use crate::settings::Settings;
+use crate::settings::{Settings, LENGTH_LIMIT};
 use crate::transfer::{Running, Transfer, SHARED_LENGTH};
 use crate::vectors::{fresh as settings_cases, sound, source};
 
@@ -72,28 +72,22 @@ fn every_kind(settings: &Settings) -> Vec<Access> {
     list
 }
 
-fn on_record(card: Card, memories: Memories) -> Case {
-    let accesses = if card.sound() {
-        probe(&card.settings)
-    } else {
-        every_kind(&card.settings)
-    };
-    Case::Accesses {
-        first: First::Record(card),
-        memories,
-        accesses,
-    }
-}
-
 /// Sound and unsound records, each rule alone, at its border.
 fn records(cases: &mut Vec<Case>) {
     let mut unsound = 0;
     let given = sound::cases().into_iter().map(|(card, _)| card);
     let written_down = |card: &Card| card.fifos.len() == FIFOS && card.pairs.len() == PAIRS;
     for card in given.chain(further_records()).filter(written_down) {
-        unsound += usize::from(!card.sound());
-        let memories = Memories::fit(card.settings.length.min(65_536), 2 * cases.len() as u32);
-        cases.push(on_record(card, memories));
+        let settings = card.settings;
+        let accesses = if card.sound() {
+            probe(&settings)
+        } else {
+            unsound += 1;
+            every_kind(&settings)
+        };
+        let memories = Memories::fit(cases.len(), settings.length.min(LENGTH_LIMIT));
+        let first = First::Record(card);
+        cases.push(Case::of_accesses(&first, &memories, &accesses));
     }
     assert!(
         unsound >= 100 && cases.len() >= unsound + 80,
@@ -151,16 +145,10 @@ fn further_records() -> Vec<Card> {
 /// Memories of wrong lengths.
 fn lengths(cases: &mut Vec<Case>) {
     let mut add = |settings: Settings, shared_length, window_length| {
-        let seed = 2 * cases.len() as u32;
-        cases.push(Case::Accesses {
-            first: First::Fresh(settings),
-            memories: Memories {
-                shared_length,
-                window_length,
-                seed,
-            },
-            accesses: every_kind(&settings),
-        });
+        let first = First::Fresh(settings);
+        let memories = Memories::of_case(cases.len(), shared_length, window_length);
+        let accesses = every_kind(&settings);
+        cases.push(Case::of_accesses(&first, &memories, &accesses));
     };
     for shared in [0, 4, 8192, 16_380, 16_383, 16_385, 16_388, 32_768, 65_536] {
         add(MIDDLE, shared, MIDDLE.length);
@@ -197,16 +185,13 @@ fn settings(cases: &mut Vec<Case>) {
         let given = fresh(settings).1.settings;
         let mut lengths = BTreeSet::from([given.length]);
         if !passes {
-            lengths.insert(settings.length.min(65_536));
+            lengths.insert(settings.length.min(LENGTH_LIMIT));
         }
+        let first = First::Fresh(settings);
+        let accesses = [probe(&given), probe(&settings)].concat();
         for length in lengths {
-            let mut accesses = probe(&given);
-            accesses.extend(probe(&settings));
-            cases.push(Case::Accesses {
-                first: First::Fresh(settings),
-                memories: Memories::fit(length, 2 * cases.len() as u32),
-                accesses,
-            });
+            let memories = Memories::fit(cases.len(), length);
+            cases.push(Case::of_accesses(&first, &memories, &accesses));
         }
     }
 }
@@ -217,21 +202,12 @@ fn planned(cases: &mut Vec<Case>) {
     let mut coverage = Coverage::default();
     for (mut plan, number) in plans().into_iter().zip(0..) {
         plan.faults = plan.faults.map(|_| (0, 1));
-        let memories = Memories {
-            shared_length: plan.shared_length,
-            window_length: plan.window_length,
-            seed: 2 * cases.len() as u32,
-        };
-        let world = plan.first.world(memories.shared(), memories.window());
+        let memories = Memories::of_case(cases.len(), plan.shared_length, plan.window_length);
+        let world = memories.world(&plan.first);
         let mut builder = Builder::new(world, Rng::new(SEED + number), &mut coverage);
         builder.follow(&plan, PLANNED);
         let accesses = builder.accesses();
-        let first = plan.first;
-        cases.push(Case::Accesses {
-            first,
-            memories,
-            accesses,
-        });
+        cases.push(Case::of_accesses(&plan.first, &memories, &accesses));
     }
     let missing = coverage.missing(required::facts());
     assert!(missing.is_empty(), "not reached: {missing:#?}");
@@ -242,35 +218,24 @@ fn random(cases: &mut Vec<Case>) {
     let mut rng = Rng::new(SEED - 1);
     let mut coverage = Coverage::default();
     for _ in 0..RANDOM_LISTS {
-        let card = arbitrary::sound_card(&mut rng);
-        let memories = Memories::fit(card.settings.length, 2 * cases.len() as u32);
-        let first = First::Record(card);
-        let world = first.world(memories.shared(), memories.window());
+        let first = First::Record(arbitrary::sound_card(&mut rng));
+        let memories = Memories::fit(cases.len(), first.settings().length);
+        let world = memories.world(&first);
         let mut builder = Builder::new(world, Rng::new(rng.number()), &mut coverage);
         for _ in 0..RANDOM {
             builder.random();
         }
         let accesses = builder.accesses();
-        cases.push(Case::Accesses {
-            first,
-            memories,
-            accesses,
-        });
+        cases.push(Case::of_accesses(&first, &memories, &accesses));
     }
 }
 
 /// Source requests: those of the vectors, and random ones over large windows.
 fn sources(cases: &mut Vec<Case>) {
     for request in source::cases() {
-        cases.push(Case::Sources {
-            settings: request.settings,
-            memories: Memories {
-                shared_length: request.shared_length,
-                window_length: request.window_length,
-                seed: 2 * cases.len() as u32,
-            },
-            transfers: vec![request.transfer],
-        });
+        let memories = Memories::of_case(cases.len(), request.shared_length, request.window_length);
+        let transfers = [request.transfer];
+        cases.push(Case::of_requests(request.settings, &memories, &transfers));
     }
     let mut rng = Rng::new(SEED - 2);
     for settings in [Settings::REPLAY, LARGEST] {
@@ -280,10 +245,8 @@ fn sources(cases: &mut Vec<Case>) {
             let pci = settings.base + 4 * rng.below((settings.length - size) / 4 + 1);
             Transfer::new(rng.below(2) as u8, shared, pci, size)
         };
-        cases.push(Case::Sources {
-            settings,
-            memories: Memories::fit(settings.length, 2 * cases.len() as u32),
-            transfers: (0..RANDOM_SOURCES).map(random).collect(),
-        });
+        let transfers: Vec<Transfer> = (0..RANDOM_SOURCES).map(random).collect();
+        let memories = Memories::fit(cases.len(), settings.length);
+        cases.push(Case::of_requests(settings, &memories, &transfers));
     }
 }
