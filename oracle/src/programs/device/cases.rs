@@ -8,7 +8,7 @@ use crate::card::{fresh, Card, FIFOS, PAIRS};
 use crate::drive::builder::{Builder, HOST, LOCAL};
 use crate::drive::coverage::{required, Coverage};
 use crate::drive::faults::faultless;
-use crate::drive::plans::{plans, First};
+use crate::drive::plans::{plans, First, MIDDLE};
 use crate::refusal::{LAST_KIND, PUT_BY};
 use crate::rng::Rng;
 use crate::settings::{Settings, LENGTH_LIMIT};
@@ -24,7 +24,6 @@ const RANDOM: usize = 24;
 const RANDOM_LISTS: usize = 120;
 const RANDOM_SOURCES: usize = 60;
 
-const MIDDLE: Settings = Settings::new(0x2000_0000, 256, 64, 128);
 const LARGEST: Settings = Settings::new(0xFFFF_0000, 65_536, 32_768, 49_152);
 
 pub fn cases() -> Vec<Case> {
@@ -99,12 +98,7 @@ fn records(cases: &mut Vec<Case>) {
 /// Numbers that are sound once they are cut to fewer bits.
 fn further_records() -> Vec<Card> {
     let mut cards = Vec::new();
-    let mut add = |change: &dyn Fn(&mut Card)| {
-        let (_, mut card) = fresh(MIDDLE);
-        change(&mut card);
-        assert!(!card.sound());
-        cards.push(card);
-    };
+    let mut add = |change: &dyn Fn(&mut Card)| cards.push(sound::changed(MIDDLE, false, change));
     for fifo in 0..FIFOS {
         for count in [34, 64, 255, 256 + 5, 65_536 + 5] {
             add(&|card| card.fifos[fifo] = (0..count).collect());
