@@ -203,8 +203,7 @@ fn planned(cases: &mut Vec<Case>) {
         let accesses = builder.accesses();
         cases.push(Case::of_accesses(&plan.first, &memories, &accesses));
     }
-    let missing = coverage.missing(required::facts());
-    assert!(missing.is_empty(), "not reached: {missing:#?}");
+    coverage.assert_reached(required::facts());
 }
 
 /// Random accesses to random records.

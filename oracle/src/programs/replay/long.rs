@@ -62,8 +62,7 @@ pub fn accesses(count: usize) -> Vec<Access> {
     }
     let accesses = b.accesses();
     assert_eq!(accesses.len(), count);
-    let missing = coverage.missing(required::of_replay());
-    assert!(missing.is_empty(), "not reached: {missing:#?}");
+    coverage.assert_reached(required::of_replay());
     accesses
 }
 
