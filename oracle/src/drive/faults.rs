@@ -152,30 +152,22 @@ fn starts(settings: &Settings, faults: &mut Vec<Access>) {
 fn two_at_once(settings: &Settings, rng: &mut Rng, faults: &mut Vec<Access>) {
     let past = settings.base.wrapping_add(settings.length);
     for kind in [kind::WINDOW_READ, kind::WINDOW_WRITE] {
+        // causes 3, 4, 5 and 9
+        let unused = |access| Access { c: 1, ..access };
+        let lanes = |access| Access { s: 16, ..access };
+        let side = |access| Access {
+            side: LOCAL,
+            ..access
+        };
+        let address = |access| Access { a: past, ..access };
         let access = faultless(kind, settings);
-        let unused = Access { c: 1, ..access };
         faults.extend([
-            Access { s: 16, ..unused },
-            Access {
-                side: LOCAL,
-                ..unused
-            },
-            Access { a: past, ..unused },
-            Access {
-                side: LOCAL,
-                s: 16,
-                ..access
-            },
-            Access {
-                s: 16,
-                a: past,
-                ..access
-            },
-            Access {
-                side: LOCAL,
-                a: past,
-                ..access
-            },
+            lanes(unused(access)),
+            side(unused(access)),
+            address(unused(access)),
+            side(lanes(access)),
+            address(lanes(access)),
+            address(side(access)),
         ]);
     }
     let step = Access::new(kind::STEP, LOCAL, 1, 0, 0, 0);
