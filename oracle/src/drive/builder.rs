@@ -106,15 +106,33 @@ impl<'a> Builder<'a> {
         }
     }
 
-    /// Both interrupt registers.
-    pub fn registers(&mut self) {
-        self.plain(kind::INTERRUPT_READ, HOST);
-        self.plain(kind::INTERRUPT_READ, LOCAL);
+    /// A start, then steps until no transfer runs.
+    pub fn run_transfer(&mut self, side: u8, direction: u8, shared: u32, pci: u32, size: u32) {
+        self.start(side, direction, shared, pci, size);
+        self.step_to_end();
     }
 
-    /// Both lines.
-    pub fn lines(&mut self) {
-        self.plain(kind::LINE, HOST);
-        self.plain(kind::LINE, LOCAL);
+    pub fn read_registers(&mut self) {
+        self.by_both_sides(kind::INTERRUPT_READ);
+    }
+
+    pub fn read_lines(&mut self) {
+        self.by_both_sides(kind::LINE);
+    }
+
+    pub fn read_mailboxes(&mut self) {
+        self.by_both_sides(kind::MAILBOX_READ);
+    }
+
+    /// A kind that uses no field, from the host and then from the local side.
+    fn by_both_sides(&mut self, kind: u8) {
+        self.plain(kind, HOST);
+        self.plain(kind, LOCAL);
+    }
+
+    /// An interrupt write to HINT, then one to LINT.
+    pub fn write_registers(&mut self, hint: u32, lint: u32) {
+        self.value(kind::INTERRUPT_WRITE, HOST, hint);
+        self.value(kind::INTERRUPT_WRITE, LOCAL, lint);
     }
 }

@@ -18,10 +18,10 @@ pub fn no_window(b: &mut Builder) {
     for direction in [0, 1] {
         b.start(HOST, direction, 0, base, 8);
         b.plain(kind::STEP, LOCAL);
-        b.registers();
+        b.read_registers();
         b.plain(kind::STEP, HOST);
         b.value(kind::INTERRUPT_WRITE, direction, 0x0200_0200);
-        b.lines();
+        b.read_lines();
     }
 }
 

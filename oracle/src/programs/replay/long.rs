@@ -73,9 +73,8 @@ fn whole_transfers(b: &mut Builder) {
         for _ in 0..100 {
             wide_access(b);
         }
-        b.start(HOST, direction, 0, base + 4096, SHARED_LENGTH);
-        b.step_to_end();
-        b.registers();
+        b.run_transfer(HOST, direction, 0, base + 4096, SHARED_LENGTH);
+        b.read_registers();
     }
 }
 
@@ -159,7 +158,7 @@ fn interleaved(b: &mut Builder) {
             _ => rarely_reset(b),
         }
     }
-    b.registers();
+    b.read_registers();
 }
 
 /// All that is left: the registers, the FIFOs, the mailboxes, the flags, and every dword of both
