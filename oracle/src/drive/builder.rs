@@ -8,9 +8,7 @@ use crate::world::World;
 use super::coverage::{Coverage, Observed};
 use super::faults;
 use super::plans::Plan;
-
-pub const HOST: u8 = 0;
-pub const LOCAL: u8 = 1;
+use super::sides::{by_both, HOST, LOCAL};
 
 pub struct Builder<'a> {
     pub world: World,
@@ -74,6 +72,12 @@ impl<'a> Builder<'a> {
         answer
     }
 
+    pub fn perform(&mut self, accesses: impl IntoIterator<Item = Access>) {
+        for access in accesses {
+            self.access(access);
+        }
+    }
+
     /// A kind that uses no field.
     pub fn plain(&mut self, kind: u8, side: u8) {
         self.access(Access::new(kind, side, 0, 0, 0, 0));
@@ -113,21 +117,15 @@ impl<'a> Builder<'a> {
     }
 
     pub fn read_registers(&mut self) {
-        self.by_both_sides(kind::INTERRUPT_READ);
+        self.perform(by_both(kind::INTERRUPT_READ, 0));
     }
 
     pub fn read_lines(&mut self) {
-        self.by_both_sides(kind::LINE);
+        self.perform(by_both(kind::LINE, 0));
     }
 
     pub fn read_mailboxes(&mut self) {
-        self.by_both_sides(kind::MAILBOX_READ);
-    }
-
-    /// A kind that uses no field, from the host and then from the local side.
-    fn by_both_sides(&mut self, kind: u8) {
-        self.plain(kind, HOST);
-        self.plain(kind, LOCAL);
+        self.perform(by_both(kind::MAILBOX_READ, 0));
     }
 
     /// An interrupt write to HINT, then one to LINT.

@@ -7,8 +7,9 @@ pub mod transfers;
 use crate::access::kind;
 use crate::refusal::LAST_KIND;
 
-use super::builder::{Builder, HOST, LOCAL};
+use super::builder::Builder;
 use super::faults::{faultless, faults};
+use super::sides::{HOST, LOCAL};
 use memories::borders;
 
 /// A window without bytes: each step is a master abort.
@@ -28,10 +29,7 @@ pub fn no_window(b: &mut Builder) {
 /// Every kind, and faults of every number, where all is refused with 1.
 pub fn all_refused(b: &mut Builder) {
     let settings = b.settings();
-    for kind in 0..=LAST_KIND {
-        let access = faultless(kind, &settings);
-        b.access(access);
-    }
+    b.perform((0..=LAST_KIND).map(|kind| faultless(kind, &settings)));
     let faults = faults(&settings, &mut b.rng);
     while b.entries.len() < 42 {
         let fault = b.rng.pick(&faults);

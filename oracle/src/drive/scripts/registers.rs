@@ -3,14 +3,13 @@
 use crate::access::kind;
 use crate::card::FIFO_DEPTH;
 use crate::interrupts::event;
-use crate::refusal::PUT_BY;
 
-use super::super::builder::{Builder, HOST, LOCAL};
+use super::super::builder::Builder;
+use super::super::sides::{by_both, putter, taker, HOST, LOCAL};
 
 /// Fills a FIFO, overflows it and drains it.
 fn overflow(b: &mut Builder, fifo: u8) {
-    let putter = PUT_BY[usize::from(fifo)] as u8;
-    let taker = 1 - putter;
+    let (putter, taker) = (putter(fifo), taker(fifo));
     b.select(kind::TAKE, taker, fifo);
     b.value(kind::INTERRUPT_WRITE, taker, 0x00C3_0000);
     fill(b, fifo);
@@ -27,7 +26,7 @@ fn overflow(b: &mut Builder, fifo: u8) {
 
 /// Puts until the FIFO is full; the first entries are 4,294,967,295 and 0.
 fn fill(b: &mut Builder, fifo: u8) {
-    let putter = PUT_BY[usize::from(fifo)] as u8;
+    let putter = putter(fifo);
     b.put(putter, fifo, u32::MAX);
     b.read_registers();
     b.put(putter, fifo, 0);
@@ -39,7 +38,7 @@ fn fill(b: &mut Builder, fifo: u8) {
 
 /// Takes until the FIFO is empty, and once more.
 fn drain(b: &mut Builder, fifo: u8) {
-    let taker = 1 - PUT_BY[usize::from(fifo)] as u8;
+    let taker = taker(fifo);
     while !b.world.card.fifos[usize::from(fifo)].is_empty() {
         b.select(kind::TAKE, taker, fifo);
     }
@@ -79,8 +78,7 @@ pub fn found(b: &mut Builder) {
     drain(b, 2);
     b.read_mailboxes();
     for pair in [1, 2] {
-        b.select(kind::CLAIM, HOST, pair);
-        b.select(kind::CLAIM, LOCAL, pair);
+        b.perform(by_both(kind::CLAIM, pair));
     }
 }
 
@@ -164,8 +162,7 @@ pub fn interrupts(b: &mut Builder) {
 pub fn clearing(b: &mut Builder) {
     b.read_lines();
     for fifo in 0..4 {
-        let putter = PUT_BY[usize::from(fifo)] as u8;
-        b.put(putter, fifo, 1);
+        b.put(putter(fifo), fifo, 1);
     }
     b.value(kind::MAILBOX_WRITE, HOST, 0x0100_1234);
     b.value(kind::MAILBOX_WRITE, LOCAL, 0x0100_4305);
@@ -193,8 +190,7 @@ pub fn clearing(b: &mut Builder) {
     b.plain(kind::RESET, HOST);
     b.read_registers();
     for fifo in 0..4 {
-        let taker = 1 - PUT_BY[usize::from(fifo)] as u8;
-        b.select(kind::TAKE, taker, fifo);
+        b.select(kind::TAKE, taker(fifo), fifo);
     }
     b.select(kind::CLAIM, LOCAL, 0);
     b.select(kind::CLAIM, HOST, 3);

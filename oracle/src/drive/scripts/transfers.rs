@@ -2,7 +2,8 @@
 
 use crate::access::{kind, Access};
 
-use super::super::builder::{Builder, HOST, LOCAL};
+use super::super::builder::Builder;
+use super::super::sides::{HOST, LOCAL};
 
 /// Up to, at and past the abort range, from both directions.
 pub fn abort_range(b: &mut Builder) {

@@ -5,11 +5,12 @@ use std::collections::BTreeSet;
 use crate::access::{kind, Access};
 use crate::arbitrary;
 use crate::card::{fresh, Card, FIFOS, PAIRS};
-use crate::drive::builder::{Builder, HOST, LOCAL};
+use crate::drive::builder::Builder;
 use crate::drive::coverage::{required, Coverage};
 use crate::drive::faults::faultless;
 use crate::drive::plans::{plans, First, MIDDLE};
-use crate::refusal::{LAST_KIND, PUT_BY};
+use crate::drive::sides::{by_both, putter, taker, HOST, LOCAL};
+use crate::refusal::LAST_KIND;
 use crate::rng::Rng;
 use crate::settings::{Settings, LENGTH_LIMIT};
 use crate::transfer::{Running, Transfer, SHARED_LENGTH};
@@ -41,16 +42,15 @@ pub fn cases() -> Vec<Case> {
 fn probe(settings: &Settings) -> Vec<Access> {
     let mut list = Vec::new();
     for kind in [kind::INTERRUPT_READ, kind::LINE, kind::MAILBOX_READ] {
-        list.extend([HOST, LOCAL].map(|side| Access::new(kind, side, 0, 0, 0, 0)));
+        list.extend(by_both(kind, 0));
     }
-    list.extend([HOST, LOCAL].map(|side| Access::new(kind::STEP, side, 0, 0, 0, 0)));
-    for (fifo, putter) in (0..).zip(PUT_BY) {
-        let putter = putter as u8;
-        list.push(Access::new(kind::TAKE, 1 - putter, fifo, 0, 0, 0));
-        list.push(Access::new(kind::PUT, putter, fifo, 0, u32::MAX, 0));
-        list.push(Access::new(kind::PUT, putter, fifo, 0, 0, 0));
-        list.push(Access::new(kind::CLAIM, HOST, fifo, 0, 0, 0));
-        list.push(Access::new(kind::CLAIM, LOCAL, fifo, 0, 0, 0));
+    list.extend(by_both(kind::STEP, 0));
+    for fifo in 0..4 {
+        let put = |entry| Access::new(kind::PUT, putter(fifo), fifo, 0, entry, 0);
+        list.push(Access::new(kind::TAKE, taker(fifo), fifo, 0, 0, 0));
+        list.extend([put(u32::MAX), put(0)]);
+        // the pair of the same number
+        list.extend(by_both(kind::CLAIM, fifo));
     }
     list.extend((kind::SHARED_READ..=LAST_KIND).map(|kind| faultless(kind, settings)));
     list

@@ -1,11 +1,12 @@
 //! The long trace: all that a replay can reach, and record numbers past 65,535.
 
 use crate::access::{kind, Access};
-use crate::drive::builder::{Builder, HOST, LOCAL};
+use crate::card::FIFO_DEPTH;
+use crate::drive::builder::Builder;
 use crate::drive::coverage::{required, Coverage};
 use crate::drive::faults::faults;
 use crate::drive::scripts::{memories, registers, transfers};
-use crate::refusal::PUT_BY;
+use crate::drive::sides::{by_both, taker, HOST, LOCAL};
 use crate::replay::bench;
 use crate::rng::Rng;
 use crate::transfer::SHARED_LENGTH;
@@ -57,9 +58,7 @@ pub fn accesses(count: usize) -> Vec<Access> {
     while b.entries.len() < until {
         rarely_reset(&mut b);
     }
-    for access in last {
-        b.access(access);
-    }
+    b.perform(last);
     let accesses = b.accesses();
     assert_eq!(accesses.len(), count);
     coverage.assert_reached(required::of_replay());
@@ -167,12 +166,13 @@ fn last_reads(b: &Builder) -> Vec<Access> {
     let settings = b.settings();
     let mut list = Vec::new();
     for kind in [kind::INTERRUPT_READ, kind::LINE, kind::MAILBOX_READ] {
-        list.extend([HOST, LOCAL].map(|side| Access::new(kind, side, 0, 0, 0, 0)));
+        list.extend(by_both(kind, 0));
     }
-    for (fifo, putter) in (0..).zip(PUT_BY) {
-        let take = Access::new(kind::TAKE, 1 - putter as u8, fifo, 0, 0, 0);
-        list.extend([take; 33]);
-        list.extend([HOST, LOCAL].map(|side| Access::new(kind::CLAIM, side, fifo, 0, 0, 0)));
+    for fifo in 0..4 {
+        let take = Access::new(kind::TAKE, taker(fifo), fifo, 0, 0, 0);
+        list.extend([take; FIFO_DEPTH + 1]);
+        // the pair of the same number
+        list.extend(by_both(kind::CLAIM, fifo));
     }
     let dwords = |length: u32| (0..length).step_by(4);
     list.extend(dwords(SHARED_LENGTH).map(|a| Access::new(kind::SHARED_READ, LOCAL, 0, a, 0, 0)));
