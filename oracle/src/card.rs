@@ -12,7 +12,7 @@ pub const PAIRS: usize = 4;
 /// "Each FIFO holds 32 numbers of 32 bits."
 pub const FIFO_DEPTH: usize = 32;
 /// Mailbox data is below this.
-pub const MAILBOX_LIMIT: u32 = 65_536;
+const MAILBOX_LIMIT: u32 = 65_536;
 
 /// "Side 0 is the host, side 1 the local processor."
 #[derive(Clone, Copy, Debug, PartialEq, Eq)]

@@ -3,9 +3,9 @@
 use std::io::{self, BufRead, BufReader, BufWriter, Read, Write};
 
 use crate::access::{kind, Access, Answer};
+use crate::card::fresh;
 use crate::settings::Settings;
 use crate::trace::{self, RECORD};
-use crate::transfer::SHARED_LENGTH;
 use crate::world::World;
 
 /// The bytes that are read and written at a time.
@@ -23,10 +23,8 @@ pub const WHOLE_CASE: [Access; 3] = [
 
 /// A fresh card with the replay's settings between zeroed memories.
 pub fn bench() -> World {
-    let settings = Settings::REPLAY;
-    let shared = vec![0; SHARED_LENGTH as usize];
-    let window = vec![0; settings.length as usize];
-    World::fresh(settings, shared, window)
+    let (_, card) = fresh(Settings::REPLAY);
+    World::zeroed(card)
 }
 
 /// "Per record it writes record number, answer number, V, X in decimal with single spaces; then

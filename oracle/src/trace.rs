@@ -5,7 +5,7 @@ use crate::access::Access;
 /// The bytes of a record.
 pub const RECORD: usize = 20;
 /// "the two-byte mark 0x42 0x50"
-pub const MARK: [u8; 2] = [0x42, 0x50];
+const MARK: [u8; 2] = [0x42, 0x50];
 
 /// What the trace reader refuses.
 pub mod refused {

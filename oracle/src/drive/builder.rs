@@ -59,7 +59,7 @@ impl<'a> Builder<'a> {
     }
 
     /// Performs an access and keeps it with its answer.
-    pub fn access(&mut self, access: Access) -> Answer {
+    pub fn access(&mut self, access: Access) {
         let before = self.world.clone();
         let answer = self.world.access(access);
         self.coverage.observe(&Observed {
@@ -69,7 +69,6 @@ impl<'a> Builder<'a> {
             after: &self.world,
         });
         self.entries.push((access, answer));
-        answer
     }
 
     pub fn perform(&mut self, accesses: impl IntoIterator<Item = Access>) {

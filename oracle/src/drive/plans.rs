@@ -40,13 +40,14 @@ impl First {
     }
 
     pub fn world(&self, shared: Vec<u8>, window: Vec<u8>) -> World {
-        match self {
-            First::Fresh(settings) => World::fresh(*settings, shared, window),
-            First::Record(card) => World {
-                card: card.clone(),
-                shared,
-                window,
-            },
+        let card = match self {
+            First::Fresh(settings) => fresh(*settings).1,
+            First::Record(card) => card.clone(),
+        };
+        World {
+            card,
+            shared,
+            window,
         }
     }
 }
