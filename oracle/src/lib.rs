@@ -21,4 +21,4 @@ pub mod transfer;
 mod vectors;
 pub mod world;
 
-pub use programs::{long_trace, FEWEST};
+pub use programs::{long_trace, FEWEST_RECORDS};

@@ -7,7 +7,7 @@ mod trace;
 
 use crate::stored::Stored;
 
-pub use replay::{long_trace, FEWEST};
+pub use replay::{long_trace, FEWEST_RECORDS};
 
 /// A program by the name of its crate.
 struct Program {

@@ -32,7 +32,7 @@ use super::Program;
 use case::Case;
 
 /// What the input has room for.
-const LIMIT: usize = 1_000_000;
+const INPUT_LIMIT: usize = 1_000_000;
 
 pub fn program() -> Program {
     let mut stdin = Vec::new();
@@ -41,7 +41,7 @@ pub fn program() -> Program {
         stdin.extend(numbers.into_iter().flat_map(u32::to_le_bytes));
         stdout += &text;
     }
-    assert!(stdin.len() < LIMIT, "{}", stdin.len());
+    assert!(stdin.len() < INPUT_LIMIT, "{}", stdin.len());
     Program {
         name: "device_test",
         stdin,

@@ -13,9 +13,9 @@ use crate::transfer::SHARED_LENGTH;
 
 const SEED: u64 = 500;
 /// The records of the stored trace.
-pub const STORED: usize = 80_000;
+pub const STORED_RECORDS: usize = 80_000;
 /// The fewest records: their numbers start again at 0.
-pub const FEWEST: usize = 70_000;
+pub const FEWEST_RECORDS: usize = 70_000;
 /// No round has more accesses: a script may step the largest transfer to its end.
 const LONGEST_ROUND: usize = 5000;
 
@@ -42,7 +42,7 @@ pub const SCRIPTS: [fn(&mut Builder); 15] = [
 
 /// So many accesses, which reach every fact that is required of a replay; or panics.
 pub fn accesses(count: usize) -> Vec<Access> {
-    assert!(count >= FEWEST);
+    assert!(count >= FEWEST_RECORDS);
     let mut coverage = Coverage::default();
     let mut b = Builder::new(bench(), Rng::new(SEED), &mut coverage);
     for script in SCRIPTS {

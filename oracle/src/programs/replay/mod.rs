@@ -13,25 +13,25 @@ use crate::trace::{trace, RECORD};
 
 use super::Program;
 
-pub use long::FEWEST;
+pub use long::FEWEST_RECORDS;
 
 /// The records of all traces together are at least so many.
-const LEAST: usize = 100_000;
+const LEAST_RECORDS: usize = 100_000;
 /// What all traces and texts may take together.
-const LIMIT: usize = 10_000_000;
+const BYTES_LIMIT: usize = 10_000_000;
 
 pub fn programs() -> [Program; 2] {
-    let long = long_trace(long::STORED);
+    let long = long_trace(long::STORED_RECORDS);
     let traces = [short::traces(), damaged::traces(), lessons::traces()].concat();
     let bytes = long.len() + traces.iter().map(Vec::len).sum::<usize>();
-    assert!(bytes >= LEAST * RECORD);
+    assert!(bytes >= LEAST_RECORDS * RECORD);
     let programs = [on_trace("replay", long), on_traces("replay_test", traces)];
     let sizes = programs.iter().map(|p| p.stdin.len() + p.stdout.len());
-    assert!(sizes.sum::<usize>() < LIMIT);
+    assert!(sizes.sum::<usize>() < BYTES_LIMIT);
     programs
 }
 
-/// A trace of so many records, at least `FEWEST`, every kind done and refused among them.
+/// A trace of so many records, at least `FEWEST_RECORDS`, every kind done and refused among them.
 pub fn long_trace(records: usize) -> Vec<u8> {
     trace(&long::accesses(records))
 }
