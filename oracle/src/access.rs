@@ -73,7 +73,7 @@ impl Access {
     }
 
     /// The side, once it is known to be 0 or 1.
-    fn caller(&self) -> Side {
+    pub fn caller(&self) -> Side {
         if self.side == 0 {
             Side::Host
         } else {

@@ -107,7 +107,6 @@ impl Card {
         bits
     }
 
-    /// The register of one side.
     pub fn register(&self, side: Side) -> &Register {
         match side {
             Side::Host => &self.hint,
@@ -116,7 +115,7 @@ impl Card {
     }
 
     /// Enables and status of HINT, then of LINT.
-    pub fn registers(&self) -> [u32; 4] {
+    pub fn register_numbers(&self) -> [u32; 4] {
         let (hint, lint) = (&self.hint, &self.lint);
         [hint.enables, hint.status, lint.enables, lint.status]
     }

@@ -67,7 +67,6 @@ impl Transfer {
     }
 }
 
-/// A transfer that runs.
 #[derive(Clone, Copy, Debug, PartialEq, Eq)]
 pub struct Running {
     pub transfer: Transfer,

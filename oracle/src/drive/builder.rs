@@ -53,7 +53,6 @@ impl<'a> Builder<'a> {
         }
     }
 
-    /// The accesses so far.
     pub fn accesses(&self) -> Vec<Access> {
         self.entries.iter().map(|(access, _)| *access).collect()
     }

@@ -6,11 +6,10 @@ use crate::transfer::{Running, SHARED_LENGTH};
 use super::builder::Builder;
 use super::sides::{putter, taker, HOST, LOCAL};
 
-/// How often a list turns to each part of the card, in the order of `random`.
+/// How often a list turns to each part of the card, in the order of `choice`.
 const WEIGHTS: [u32; 8] = [4, 4, 5, 3, 4, 6, 9, 1];
 
 impl Builder<'_> {
-    /// One random access.
     pub fn random(&mut self) {
         let access = self.choice();
         self.access(access);

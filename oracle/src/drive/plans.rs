@@ -54,7 +54,7 @@ impl First {
 
 /// An abort range in the middle of the window.
 pub const MIDDLE: Settings = Settings::new(0x2000_0000, 256, 64, 128);
-/// The same in the smallest window that has dwords on both sides of it.
+/// The same in a small window.
 const SMALL: Settings = Settings::new(0x0000_1000, 64, 24, 40);
 /// lo = hi: no abort range.
 const NO_ABORT: Settings = Settings::new(0xC000_0040, 128, 32, 32);

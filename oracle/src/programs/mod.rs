@@ -23,7 +23,6 @@ fn change_bits(record: &mut [u8], changes: &[(usize, u8)]) {
     }
 }
 
-/// Every program's files.
 pub fn files() -> Vec<Stored> {
     let programs = [pins::program(), trace::program(), device::program()];
     programs

@@ -9,7 +9,7 @@ use crate::access::Access;
 use crate::arbitrary;
 use crate::decimal::decimal;
 use crate::rng::Rng;
-use crate::trace::{next_number, read, record, refused, RECORD};
+use crate::trace::{next_number, read, record, refused, RECORD_LENGTH};
 
 use super::{change_bits, Program};
 
@@ -79,7 +79,7 @@ fn whole(cases: &mut Cases) {
     }
     let highest = Access::new(255, 255, 255, u32::MAX, u32::MAX, u32::MAX);
     cases.add(3, &record(3, &highest));
-    for at in (4..RECORD).filter(|at| *at != 7) {
+    for at in (4..RECORD_LENGTH).filter(|at| *at != 7) {
         for value in [1, 128, 255] {
             let mut bytes = record(0, &Access::default());
             bytes[at] = value;
@@ -92,13 +92,13 @@ fn whole(cases: &mut Cases) {
 fn lengths(cases: &mut Cases) {
     for (expected, at, bits) in [(6, 0, 0), (6, 0, 1), (6, 2, 3), (6, 7, 1)] {
         let mut bytes = [0xEE; ROOM];
-        bytes[..RECORD].copy_from_slice(&record(expected, &EVERY_BYTE));
+        bytes[..RECORD_LENGTH].copy_from_slice(&record(expected, &EVERY_BYTE));
         bytes[at] ^= bits;
         for length in 0..=ROOM {
             cases.add(expected, &bytes[..length]);
         }
     }
-    for length in 0..RECORD {
+    for length in 0..RECORD_LENGTH {
         cases.add(0, &vec![0; length]);
     }
 }

@@ -66,7 +66,7 @@ pub fn card(card: &Card) -> String {
         format!("({fifos})"),
         format!("({flags})"),
         format!("(mail {} {} {})", mail.hldata, mail.lhdata, mail.written),
-        format!("(interrupts {})", decimal(card.registers())),
+        format!("(interrupts {})", decimal(card.register_numbers())),
         format!("{dma})"),
     ]
     .join(&format!("\n{INDENT}"))

@@ -12,6 +12,9 @@ use super::faults::{faultless, faults};
 use super::sides::{HOST, LOCAL};
 use memories::borders;
 
+/// The accesses of `all_refused`: random ones follow them in every list.
+const PLANNED_REFUSALS: usize = 42;
+
 /// A window without bytes: each step is a master abort.
 pub fn no_window(b: &mut Builder) {
     let base = b.settings().base;
@@ -31,7 +34,7 @@ pub fn all_refused(b: &mut Builder) {
     let settings = b.settings();
     b.perform((0..=LAST_KIND).map(|kind| faultless(kind, &settings)));
     let faults = faults(&settings, &mut b.rng);
-    while b.entries.len() < 42 {
+    while b.entries.len() < PLANNED_REFUSALS {
         let fault = b.rng.pick(&faults);
         b.access(fault);
     }

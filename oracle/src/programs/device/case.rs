@@ -10,7 +10,7 @@ use crate::transfer::{Running, Transfer, SHARED_LENGTH};
 use crate::world::World;
 
 /// The first number of a case's head.
-const RECORD: u32 = 0;
+const CARD_RECORD: u32 = 0;
 const FRESH_CARD: u32 = 1;
 const SOURCE_REQUESTS: u32 = 2;
 
@@ -75,7 +75,7 @@ impl Case {
     pub fn of_accesses(first: &First, memories: &Memories, accesses: &[Access]) -> Case {
         let head = |what| head(what, &first.settings(), memories, accesses.len());
         let (mut numbers, mut text) = match first {
-            First::Record(card) => ([head(RECORD), record(card)].concat(), String::new()),
+            First::Record(card) => ([head(CARD_RECORD), record(card)].concat(), String::new()),
             First::Fresh(settings) => (head(FRESH_CARD), line([fresh(*settings).0.into()])),
         };
         let mut world = memories.world(first);
@@ -126,7 +126,7 @@ fn record(card: &Card) -> Vec<u32> {
     let pairs = card.pairs.iter();
     numbers.extend(pairs.map(|pair| u32::from(pair.host) + 2 * u32::from(pair.local)));
     numbers.extend(mailboxes(card));
-    numbers.extend(card.registers());
+    numbers.extend(card.register_numbers());
     let mut transfer = running(card);
     transfer.resize(6, 0);
     numbers.extend(transfer);
@@ -168,7 +168,7 @@ fn world_text(world: &World) -> String {
     let flags = card.pairs.iter().flat_map(|pair| [pair.host, pair.local]);
     text += &line(flags.map(u32::from));
     text += &line(mailboxes(card));
-    text += &line(card.registers());
+    text += &line(card.register_numbers());
     text += &line(running(card));
     text + &line([digest(&world.shared), digest(&world.window)])
 }

@@ -1,4 +1,4 @@
-//! The cases.
+//! The cases: what a replay cannot reach, then planned and random lists, then source requests.
 
 use std::collections::BTreeSet;
 

@@ -9,7 +9,7 @@ use crate::drive::builder::Builder;
 use crate::drive::coverage::Coverage;
 use crate::replay::{bench, text};
 use crate::rng::Rng;
-use crate::trace::{trace, RECORD};
+use crate::trace::{trace, RECORD_LENGTH};
 
 use super::Program;
 
@@ -24,7 +24,7 @@ pub fn programs() -> [Program; 2] {
     let long = long_trace(long::STORED_RECORDS);
     let traces = [short::traces(), damaged::traces(), lessons::traces()].concat();
     let bytes = long.len() + traces.iter().map(Vec::len).sum::<usize>();
-    assert!(bytes >= LEAST_RECORDS * RECORD);
+    assert!(bytes >= LEAST_RECORDS * RECORD_LENGTH);
     let programs = [on_trace("replay", long), on_traces("replay_test", traces)];
     let sizes = programs.iter().map(|p| p.stdin.len() + p.stdout.len());
     assert!(sizes.sum::<usize>() < BYTES_LIMIT);
