@@ -103,18 +103,12 @@ impl Case {
 }
 
 fn head(what: u32, settings: &Settings, memories: &Memories, count: usize) -> Vec<u32> {
-    let [base, length, lo, hi] = settings.numbers();
-    vec![
-        what,
-        base,
-        length,
-        lo,
-        hi,
-        memories.shared_length,
-        memories.window_length,
-        memories.seed,
-        count as u32,
-    ]
+    let lengths = [memories.shared_length, memories.window_length];
+    let mut head = vec![what];
+    head.extend(settings.numbers());
+    head.extend(lengths);
+    head.extend([memories.seed, count as u32]);
+    head
 }
 
 fn record(card: &Card) -> Vec<u32> {
