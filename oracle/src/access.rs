@@ -61,13 +61,19 @@ impl Access {
         }
     }
 
+    /// Kind, side, S, A, B and C.
+    pub fn numbers(&self) -> [u32; 6] {
+        let [kind, side, s] = [self.kind, self.side, self.s].map(u32::from);
+        [kind, side, s, self.a, self.b, self.c]
+    }
+
     /// The transfer that a start names.
     pub fn transfer(&self) -> Transfer {
         Transfer::new(self.s, self.a, self.b, self.c)
     }
 
     /// The side, once it is known to be 0 or 1.
-    fn caller(&self) -> Side {
+    pub fn caller(&self) -> Side {
         if self.side == 0 {
             Side::Host
         } else {
@@ -92,6 +98,11 @@ impl Answer {
     /// "V and X are 0"
     pub const fn refused(number: u8) -> Answer {
         Answer { number, v: 0, x: 0 }
+    }
+
+    /// Number, V and X.
+    pub fn numbers(&self) -> [u32; 3] {
+        [self.number.into(), self.v, self.x]
     }
 }
 

@@ -1,7 +1,8 @@
-//! Random records: sound ones, and ones of which any part may be unsound.
+//! Random records, sound ones and ones of which any part may be unsound; and random accesses.
 
 use std::collections::VecDeque;
 
+use crate::access::Access;
 use crate::card::{Card, Mailboxes, Pair, FIFOS, FIFO_DEPTH, PAIRS};
 use crate::interrupts::{event, Register};
 use crate::rng::Rng;
@@ -33,6 +34,18 @@ pub fn card(rng: &mut Rng) -> Card {
         spoil(&mut card, rng);
     }
     card
+}
+
+/// An access of any six numbers; few of them are in range.
+pub fn access(rng: &mut Rng) -> Access {
+    Access {
+        kind: rng.byte(),
+        side: rng.byte(),
+        s: rng.byte(),
+        a: rng.word(),
+        b: rng.word(),
+        c: rng.word(),
+    }
 }
 
 fn sound_settings(rng: &mut Rng) -> Settings {

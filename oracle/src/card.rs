@@ -12,7 +12,7 @@ pub const PAIRS: usize = 4;
 /// "Each FIFO holds 32 numbers of 32 bits."
 pub const FIFO_DEPTH: usize = 32;
 /// Mailbox data is below this.
-pub const MAILBOX_LIMIT: u32 = 65_536;
+const MAILBOX_LIMIT: u32 = 65_536;
 
 /// "Side 0 is the host, side 1 the local processor."
 #[derive(Clone, Copy, Debug, PartialEq, Eq)]
@@ -107,12 +107,17 @@ impl Card {
         bits
     }
 
-    /// The register of one side.
     pub fn register(&self, side: Side) -> &Register {
         match side {
             Side::Host => &self.hint,
             Side::Local => &self.lint,
         }
+    }
+
+    /// Enables and status of HINT, then of LINT.
+    pub fn register_numbers(&self) -> [u32; 4] {
+        let (hint, lint) = (&self.hint, &self.lint);
+        [hint.enables, hint.status, lint.enables, lint.status]
     }
 
     /// "Events 0, 1, 5, 8, 9 are raised in both registers."

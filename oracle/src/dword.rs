@@ -1,11 +1,10 @@
 //! "In both memories a dword is four bytes, lane 0 first, and lane 0 holds bits 7 to 0."
 
-/// All four lanes enabled.
+/// "Lane bits are active low: 0 enables."
 pub const ALL_LANES: u8 = 0;
-/// No lane enabled.
 pub const NO_LANES: u8 = 15;
 
-/// "Lane bits are active low: 0 enables." The bits of a dword that its enabled lanes hold.
+/// The bits of a dword that its enabled lanes hold.
 pub fn lane_bits(lanes: u8) -> u32 {
     (0..4)
         .filter(|lane| lanes >> lane & 1 == 0)

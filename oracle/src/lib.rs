@@ -4,6 +4,7 @@
 pub mod access;
 pub mod arbitrary;
 pub mod card;
+mod decimal;
 mod drive;
 pub mod dword;
 pub mod interrupts;
@@ -20,4 +21,4 @@ pub mod transfer;
 mod vectors;
 pub mod world;
 
-pub use programs::{long_trace, FEWEST};
+pub use programs::{long_trace, FEWEST_RECORDS};

@@ -15,6 +15,13 @@ pub struct Decoded {
     pub dword: u32,
 }
 
+impl Decoded {
+    /// Number, lanes and dword.
+    pub fn numbers(&self) -> [u32; 3] {
+        [self.number.into(), self.lanes.into(), self.dword]
+    }
+}
+
 /// "Given width mode, pins BE[3:0] and data, the answer is lanes and dword; unused lanes are 0."
 pub fn decode(mode: u8, pins: u8, data: u32) -> Decoded {
     if mode > 3 || pins > 15 {

@@ -4,7 +4,6 @@ use crate::access::{kind, Access};
 use crate::card::{Card, Side, FIFOS};
 use crate::transfer::SHARED_LENGTH;
 
-/// The last kind of access.
 pub const LAST_KIND: u8 = kind::EXTERNAL_PIN;
 
 /// Who puts into each FIFO; the other side takes.

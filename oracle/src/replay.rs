@@ -2,24 +2,29 @@
 
 use std::io::{self, BufRead, BufReader, BufWriter, Read, Write};
 
-use crate::access::Answer;
+use crate::access::{kind, Access, Answer};
+use crate::card::fresh;
 use crate::settings::Settings;
-use crate::trace::{self, RECORD};
-use crate::transfer::SHARED_LENGTH;
+use crate::trace::{self, RECORD_LENGTH};
 use crate::world::World;
 
 /// The bytes that are read and written at a time.
 const BUFFER: usize = 1 << 16;
 
-/// The most digits of a number.
+/// Room for the digits of a number; one of 32 bits has at most ten.
 const DIGITS: usize = 20;
+
+/// "Whole case: local kind 9 with B 16,777,216; host kind 10; host kind 15."
+pub const WHOLE_CASE: [Access; 3] = [
+    Access::new(kind::MAILBOX_WRITE, 1, 0, 0, 16_777_216, 0),
+    Access::new(kind::MAILBOX_READ, 0, 0, 0, 0, 0),
+    Access::new(kind::STEP, 0, 0, 0, 0, 0),
+];
 
 /// A fresh card with the replay's settings between zeroed memories.
 pub fn bench() -> World {
-    let settings = Settings::REPLAY;
-    let shared = vec![0; SHARED_LENGTH as usize];
-    let window = vec![0; settings.length as usize];
-    World::fresh(settings, shared, window)
+    let (_, card) = fresh(Settings::REPLAY);
+    World::zeroed(card)
 }
 
 /// "Per record it writes record number, answer number, V, X in decimal with single spaces; then
@@ -31,7 +36,7 @@ pub fn replay(input: impl Read, output: impl Write) -> io::Result<()> {
     let mut bench = bench();
     let mut number = 0;
     let mut count: u64 = 0;
-    let mut record = [0; RECORD];
+    let mut record = [0; RECORD_LENGTH];
     loop {
         let filled = fill(&mut input, &mut record)?;
         if filled == 0 {
@@ -54,7 +59,6 @@ pub fn replay(input: impl Read, output: impl Write) -> io::Result<()> {
     output.flush()
 }
 
-/// The text of a replay.
 pub fn text(trace: &[u8]) -> Vec<u8> {
     let mut text = Vec::new();
     replay(trace, &mut text).expect("memory is read and written");
@@ -62,9 +66,9 @@ pub fn text(trace: &[u8]) -> Vec<u8> {
 }
 
 /// Reads until the record is full or the input ends, and gives how much is filled.
-fn fill(input: &mut impl BufRead, record: &mut [u8; RECORD]) -> io::Result<usize> {
+fn fill(input: &mut impl BufRead, record: &mut [u8; RECORD_LENGTH]) -> io::Result<usize> {
     let mut filled = 0;
-    while filled < RECORD {
+    while filled < RECORD_LENGTH {
         match input.read(&mut record[filled..])? {
             0 => break,
             more => filled += more,

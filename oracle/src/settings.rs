@@ -3,7 +3,7 @@
 use std::ops::Range;
 
 /// Highest window length that passes.
-const LENGTH_LIMIT: u32 = 65_536;
+pub const LENGTH_LIMIT: u32 = 65_536;
 /// One past the last PCI address.
 pub const PCI_SPACE: u64 = 4_294_967_296;
 
@@ -27,6 +27,11 @@ impl Settings {
             lo,
             hi,
         }
+    }
+
+    /// Base, length, lo and hi.
+    pub fn numbers(&self) -> [u32; 4] {
+        [self.base, self.length, self.lo, self.hi]
     }
 
     /// "They pass if all are multiples of 4, length is at most 65,536, base + length is at most

@@ -18,7 +18,6 @@ impl Stored {
     }
 }
 
-/// Every file that this program writes.
 fn files() -> Vec<Stored> {
     let mut files = vectors::files();
     files.extend(programs::files());

@@ -3,9 +3,9 @@
 use crate::access::Access;
 
 /// The bytes of a record.
-pub const RECORD: usize = 20;
+pub const RECORD_LENGTH: usize = 20;
 /// "the two-byte mark 0x42 0x50"
-pub const MARK: [u8; 2] = [0x42, 0x50];
+const MARK: [u8; 2] = [0x42, 0x50];
 
 /// What the trace reader refuses.
 pub mod refused {
@@ -18,7 +18,7 @@ pub mod refused {
 /// "The trace reader answers a record or a refusal: 20 fewer than 20 bytes, 21 wrong mark, 22
 /// unexpected record number, 23 byte 7 not zero, in that order." It reads the first 20 bytes.
 pub fn read(bytes: &[u8], expected: u16) -> Result<Access, u8> {
-    let Some(record) = bytes.first_chunk::<RECORD>() else {
+    let Some(record) = bytes.first_chunk::<RECORD_LENGTH>() else {
         return Err(refused::SHORT);
     };
     let [m0, m1, n0, n1, kind, side, s, zero, a0, a1, a2, a3, b0, b1, b2, b3, c0, c1, c2, c3] =
@@ -47,9 +47,8 @@ pub fn next_number(number: u16) -> u16 {
     number.wrapping_add(1)
 }
 
-/// The record of an access.
-pub fn record(number: u16, access: &Access) -> [u8; RECORD] {
-    let mut record = [0; RECORD];
+pub fn record(number: u16, access: &Access) -> [u8; RECORD_LENGTH] {
+    let mut record = [0; RECORD_LENGTH];
     record[..2].copy_from_slice(&MARK);
     record[2..4].copy_from_slice(&number.to_le_bytes());
     record[4..7].copy_from_slice(&[access.kind, access.side, access.s]);

@@ -24,6 +24,11 @@ impl Transfer {
         }
     }
 
+    /// Direction, shared address, PCI address and size: S, A, B and C of a start.
+    pub fn numbers(&self) -> [u32; 4] {
+        [self.direction.into(), self.shared, self.pci, self.size]
+    }
+
     /// Cause 4 of a start: "direction above 1".
     pub fn direction_out_of_range(&self) -> bool {
         self.direction > 1
@@ -62,7 +67,6 @@ impl Transfer {
     }
 }
 
-/// A transfer that runs.
 #[derive(Clone, Copy, Debug, PartialEq, Eq)]
 pub struct Running {
     pub transfer: Transfer,

@@ -1,8 +1,8 @@
 //! A card with its two memories.
 
 use crate::access::{Access, Answer};
-use crate::card::{fresh, Card};
-use crate::settings::Settings;
+use crate::card::Card;
+use crate::transfer::SHARED_LENGTH;
 
 #[derive(Clone, Debug, PartialEq, Eq)]
 pub struct World {
@@ -12,13 +12,12 @@ pub struct World {
 }
 
 impl World {
-    /// A fresh card between these memories, whatever their lengths.
-    pub fn fresh(settings: Settings, shared: Vec<u8>, window: Vec<u8>) -> World {
-        let (_, card) = fresh(settings);
+    /// A card between zeroed memories of the right lengths.
+    pub fn zeroed(card: Card) -> World {
         World {
+            shared: vec![0; SHARED_LENGTH as usize],
+            window: vec![0; card.settings.length as usize],
             card,
-            shared,
-            window,
         }
     }
 

@@ -3,6 +3,7 @@
 use oracle::access::{kind, Access, Answer};
 use oracle::card::fresh;
 use oracle::pins::{decode, Decoded};
+use oracle::replay::{self, WHOLE_CASE};
 use oracle::settings::Settings;
 use oracle::world::World;
 
@@ -16,8 +17,7 @@ struct Bench(World);
 impl Bench {
     fn new() -> Bench {
         assert_eq!(fresh(Settings::REPLAY).0, 0);
-        let window = vec![0; Settings::REPLAY.length as usize];
-        Bench(World::fresh(Settings::REPLAY, vec![0; 16_384], window))
+        Bench(replay::bench())
     }
 
     fn access(&mut self, kind: u8, side: u8, s: u8, a: u32, b: u32, c: u32) -> Answer {
@@ -177,8 +177,7 @@ fn p14_bay_labels() {
 #[test]
 fn whole_case() {
     let mut bench = Bench::new();
-    let mailbox_write = bench.access(kind::MAILBOX_WRITE, LOCAL, 0, 0, 16_777_216, 0);
-    assert_eq!(mailbox_write, Answer::done(0, 0));
-    assert_eq!(bench.plain(kind::MAILBOX_READ, HOST), Answer::done(0, 1));
-    assert_eq!(bench.plain(kind::STEP, HOST), Answer::refused(10));
+    let answers = WHOLE_CASE.map(|access| bench.0.access(access));
+    let expected = [Answer::done(0, 0), Answer::done(0, 1), Answer::refused(10)];
+    assert_eq!(answers, expected);
 }

@@ -50,14 +50,20 @@ fn field(rng: &mut Rng, near: u32) -> u32 {
     rng.pick(&[0, 0, 0, 0, 4, 8, 16_380, 16_384, near, word])
 }
 
+/// A card that is drawn with its memories, and an access to it.
+fn drawn(rng: &mut Rng, card: fn(&mut Rng) -> Card) -> (World, Access) {
+    let card = card(rng);
+    let world = world(rng, card);
+    let access = access(rng, &world.card);
+    (world, access)
+}
+
 #[test]
 fn a_refusal_changes_nothing() {
     let mut rng = Rng::new(1);
     let mut refused = [0; 11];
     for _ in 0..ROUNDS {
-        let card = arbitrary::card(&mut rng);
-        let before = world(&mut rng, card);
-        let access = access(&mut rng, &before.card);
+        let (before, access) = drawn(&mut rng, arbitrary::card);
         let mut after = before.clone();
         let answer = after.access(access);
         refused[usize::from(answer.number)] += 1;
@@ -73,9 +79,7 @@ fn a_refusal_changes_nothing() {
 fn a_refusal_is_given_exactly_when_its_cause_is_the_first() {
     let mut rng = Rng::new(2);
     for _ in 0..ROUNDS {
-        let card = arbitrary::card(&mut rng);
-        let before = world(&mut rng, card);
-        let access = access(&mut rng, &before.card);
+        let (before, access) = drawn(&mut rng, arbitrary::card);
         let first = (1..=10).find(|number| before.cause(*number, &access));
         let answer = before.clone().access(access);
         assert_eq!(answer.number, first.unwrap_or(0), "{access:?}");
@@ -86,10 +90,8 @@ fn a_refusal_is_given_exactly_when_its_cause_is_the_first() {
 fn a_sound_record_stays_sound() {
     let mut rng = Rng::new(3);
     for _ in 0..ROUNDS {
-        let card = arbitrary::sound_card(&mut rng);
-        assert!(card.sound());
-        let mut world = world(&mut rng, card);
-        let access = access(&mut rng, &world.card);
+        let (mut world, access) = drawn(&mut rng, arbitrary::sound_card);
+        assert!(world.card.sound());
         world.access(access);
         assert!(world.card.sound(), "{access:?}");
     }
@@ -99,13 +101,9 @@ fn a_sound_record_stays_sound() {
 fn a_line_is_active_when_status_meets_enable() {
     let mut rng = Rng::new(4);
     for _ in 0..1000 {
-        let mut card = arbitrary::sound_card(&mut rng);
-        let (mut shared, mut window) = (vec![0; 16_384], vec![0; card.settings.length as usize]);
+        let mut world = World::zeroed(arbitrary::sound_card(&mut rng));
         for side in [0, 1] {
-            let mut plain = |kind| {
-                let access = Access::new(kind, side, 0, 0, 0, 0);
-                card.access(&mut shared, &mut window, access).v
-            };
+            let mut plain = |kind| world.access(Access::new(kind, side, 0, 0, 0, 0)).v;
             let register = plain(kind::INTERRUPT_READ);
             let line = plain(kind::LINE);
             assert_eq!(line, u32::from(register >> 16 & register & 0x3FF != 0));
@@ -117,25 +115,17 @@ fn a_line_is_active_when_status_meets_enable() {
 fn a_transfer_moves_its_source_within_its_steps() {
     let mut rng = Rng::new(5);
     for _ in 0..1000 {
-        let mut card = arbitrary::sound_card(&mut rng);
-        card.running = None;
-        let settings = card.settings;
-        let mut world = World {
-            shared: (0..16_384).map(|_| rng.byte()).collect(),
-            window: (0..settings.length).map(|_| rng.byte()).collect(),
-            card,
-        };
+        let mut world = World::zeroed(arbitrary::sound_card(&mut rng));
+        world.card.running = None;
+        world.shared.fill_with(|| rng.byte());
+        world.window.fill_with(|| rng.byte());
+        let settings = world.card.settings;
         let size = 4 + 4 * rng.below(8);
         let pci = settings.base.wrapping_add(4 * rng.below(36));
-        let transfer = Transfer::new(rng.below(2) as u8, 4 * rng.below(4000), pci, size);
+        let (direction, shared) = (rng.below(2) as u8, 4 * rng.below(4000));
+        let transfer = Transfer::new(direction, shared, pci, size);
         let part = source(settings, &world.shared, &world.window, transfer);
         let expected = part.of(&world.shared, &world.window).to_vec();
-        let Transfer {
-            direction,
-            shared,
-            pci,
-            size,
-        } = transfer;
         let start = Access::new(kind::START, 0, direction, shared, pci, size);
         if world.access(start) != Answer::done(size / 4, 0) {
             assert_eq!(part, Part::REFUSED);
@@ -170,9 +160,8 @@ fn a_transfer_moves_its_source_within_its_steps() {
 #[test]
 fn accepted_puts_are_takes_and_entries_held() {
     let mut rng = Rng::new(6);
-    let mut card = arbitrary::sound_card(&mut rng);
-    let (mut shared, mut window) = (vec![0; 16_384], vec![0; card.settings.length as usize]);
-    card.reset();
+    let mut world = World::zeroed(arbitrary::sound_card(&mut rng));
+    world.card.reset();
     let mut put = vec![Vec::new(); 4];
     let mut taken = vec![Vec::new(); 4];
     for _ in 0..ROUNDS {
@@ -183,7 +172,7 @@ fn accepted_puts_are_takes_and_entries_held() {
         } else {
             Access::new(kind::TAKE, rng.below(2) as u8, fifo, 0, 0, 0)
         };
-        let answer = card.access(&mut shared, &mut window, access);
+        let answer = world.access(access);
         if answer.number == 0 && answer.x == 1 {
             if access.kind == kind::PUT {
                 put[usize::from(fifo)].push(entry);
@@ -192,7 +181,7 @@ fn accepted_puts_are_takes_and_entries_held() {
             }
         }
     }
-    for ((put, taken), held) in put.iter().zip(taken).zip(&card.fifos) {
+    for ((put, taken), held) in put.iter().zip(taken).zip(&world.card.fifos) {
         let out: Vec<u32> = taken.into_iter().chain(held.iter().copied()).collect();
         assert_eq!(*put, out);
     }
@@ -201,18 +190,16 @@ fn accepted_puts_are_takes_and_entries_held() {
 #[test]
 fn a_write_reaches_its_lanes_alone() {
     let mut rng = Rng::new(7);
-    let card = arbitrary::sound_card(&mut rng);
-    let mut world = World {
-        shared: (0..16_384).map(|_| rng.byte()).collect(),
-        window: vec![0; card.settings.length as usize],
-        card,
-    };
+    let mut world = World::zeroed(arbitrary::sound_card(&mut rng));
+    world.shared.fill_with(|| rng.byte());
     for _ in 0..1000 {
         let (a, value) = (4 * rng.below(4096), rng.word());
         let written = rng.below(16) as u8;
         let read = rng.below(16) as u8;
-        let shared_read =
-            |world: &mut World, lanes| world.access(Access::new(1, 0, lanes, a, 0, 0)).v;
+        let shared_read = |world: &mut World, lanes| {
+            let read = Access::new(kind::SHARED_READ, 0, lanes, a, 0, 0);
+            world.access(read).v
+        };
         let old = shared_read(&mut world, 0);
         world.access(Access::new(kind::SHARED_WRITE, 1, written, a, value, 0));
         let bits = lane_bits(written);

@@ -1,16 +1,10 @@
 //! The trace reader, and the replay on document 01's whole case and on damaged traces.
 
 use oracle::access::{kind, Access};
-use oracle::replay;
+use oracle::arbitrary;
+use oracle::replay::{self, WHOLE_CASE};
 use oracle::rng::Rng;
 use oracle::trace::{next_number, read, record, trace};
-
-/// "local kind 9 with B 16,777,216; host kind 10; host kind 15"
-const WHOLE_CASE: [Access; 3] = [
-    Access::new(kind::MAILBOX_WRITE, 1, 0, 0, 16_777_216, 0),
-    Access::new(kind::MAILBOX_READ, 0, 0, 0, 0, 0),
-    Access::new(kind::STEP, 0, 0, 0, 0, 0),
-];
 
 fn text(trace: &[u8]) -> String {
     String::from_utf8(replay::text(trace)).unwrap()
@@ -103,14 +97,7 @@ fn a_record_is_read_back() {
     let mut rng = Rng::new(8);
     for _ in 0..1000 {
         let number = rng.word() as u16;
-        let access = Access {
-            kind: rng.byte(),
-            side: rng.byte(),
-            s: rng.byte(),
-            a: rng.word(),
-            b: rng.word(),
-            c: rng.word(),
-        };
+        let access = arbitrary::access(&mut rng);
         let mut bytes = record(number, &access).to_vec();
         assert_eq!(read(&bytes, number), Ok(access));
         bytes.extend([0xEE; 7]);

@@ -8,9 +8,7 @@ use crate::world::World;
 use super::coverage::{Coverage, Observed};
 use super::faults;
 use super::plans::Plan;
-
-pub const HOST: u8 = 0;
-pub const LOCAL: u8 = 1;
+use super::sides::{by_both, HOST, LOCAL};
 
 pub struct Builder<'a> {
     pub world: World,
@@ -55,13 +53,12 @@ impl<'a> Builder<'a> {
         }
     }
 
-    /// The accesses so far.
     pub fn accesses(&self) -> Vec<Access> {
         self.entries.iter().map(|(access, _)| *access).collect()
     }
 
     /// Performs an access and keeps it with its answer.
-    pub fn access(&mut self, access: Access) -> Answer {
+    pub fn access(&mut self, access: Access) {
         let before = self.world.clone();
         let answer = self.world.access(access);
         self.coverage.observe(&Observed {
@@ -71,7 +68,12 @@ impl<'a> Builder<'a> {
             after: &self.world,
         });
         self.entries.push((access, answer));
-        answer
+    }
+
+    pub fn perform(&mut self, accesses: impl IntoIterator<Item = Access>) {
+        for access in accesses {
+            self.access(access);
+        }
     }
 
     /// A kind that uses no field.
@@ -106,15 +108,27 @@ impl<'a> Builder<'a> {
         }
     }
 
-    /// Both interrupt registers.
-    pub fn registers(&mut self) {
-        self.plain(kind::INTERRUPT_READ, HOST);
-        self.plain(kind::INTERRUPT_READ, LOCAL);
+    /// A start, then steps until no transfer runs.
+    pub fn run_transfer(&mut self, side: u8, direction: u8, shared: u32, pci: u32, size: u32) {
+        self.start(side, direction, shared, pci, size);
+        self.step_to_end();
     }
 
-    /// Both lines.
-    pub fn lines(&mut self) {
-        self.plain(kind::LINE, HOST);
-        self.plain(kind::LINE, LOCAL);
+    pub fn read_registers(&mut self) {
+        self.perform(by_both(kind::INTERRUPT_READ, 0));
+    }
+
+    pub fn read_lines(&mut self) {
+        self.perform(by_both(kind::LINE, 0));
+    }
+
+    pub fn read_mailboxes(&mut self) {
+        self.perform(by_both(kind::MAILBOX_READ, 0));
+    }
+
+    /// An interrupt write to HINT, then one to LINT.
+    pub fn write_registers(&mut self, hint: u32, lint: u32) {
+        self.value(kind::INTERRUPT_WRITE, HOST, hint);
+        self.value(kind::INTERRUPT_WRITE, LOCAL, lint);
     }
 }

@@ -1,16 +1,15 @@
 //! Random accesses, steered by the state that they meet.
 
 use crate::access::{kind, Access};
-use crate::refusal::PUT_BY;
 use crate::transfer::{Running, SHARED_LENGTH};
 
-use super::builder::{Builder, HOST, LOCAL};
+use super::builder::Builder;
+use super::sides::{putter, taker, HOST, LOCAL};
 
-/// How often a list turns to each part of the card, in the order of `random`.
+/// How often a list turns to each part of the card, in the order of `choice`.
 const WEIGHTS: [u32; 8] = [4, 4, 5, 3, 4, 6, 9, 1];
 
 impl Builder<'_> {
-    /// One random access.
     pub fn random(&mut self) {
         let access = self.choice();
         self.access(access);
@@ -103,11 +102,10 @@ impl Builder<'_> {
 
     fn fifo_access(&mut self) -> Access {
         let fifo = self.rng.below(4) as u8;
-        let putter = PUT_BY[usize::from(fifo)] as u8;
         if self.rng.one_in(3) {
-            Access::new(kind::TAKE, 1 - putter, fifo, 0, 0, 0)
+            Access::new(kind::TAKE, taker(fifo), fifo, 0, 0, 0)
         } else {
-            Access::new(kind::PUT, putter, fifo, 0, self.dword(), 0)
+            Access::new(kind::PUT, putter(fifo), fifo, 0, self.dword(), 0)
         }
     }
 

@@ -1,13 +1,13 @@
 //! Accesses with one fault, or with two of which the smaller number must be given.
 
 use crate::access::{kind, Access};
-use crate::refusal::{LAST_KIND, PUT_BY, USES};
+use crate::refusal::{LAST_KIND, USES};
 use crate::rng::Rng;
 use crate::settings::Settings;
 use crate::transfer::SHARED_LENGTH;
 
-use super::builder::{HOST, LOCAL};
 use super::coverage::fact::Field;
+use super::sides::{putter, taker, HOST, LOCAL};
 
 /// An access of this kind without a fault, where the state allows it.
 pub fn faultless(kind: u8, settings: &Settings) -> Access {
@@ -75,10 +75,9 @@ fn kinds_and_sides(faults: &mut Vec<Access>) {
             faults.push(Access::new(kind, side, 0, 0, 0, 0));
         }
     }
-    for (fifo, putter) in PUT_BY.iter().enumerate() {
-        let (fifo, putter) = (fifo as u8, *putter as u8);
-        faults.push(Access::new(kind::TAKE, putter, fifo, 0, 0, 0));
-        faults.push(Access::new(kind::PUT, 1 - putter, fifo, 0, 9, 0));
+    for fifo in 0..4 {
+        faults.push(Access::new(kind::TAKE, putter(fifo), fifo, 0, 0, 0));
+        faults.push(Access::new(kind::PUT, taker(fifo), fifo, 0, 9, 0));
     }
     faults.push(Access::new(kind::EXTERNAL_PIN, HOST, 0, 0, 0, 0));
 }
@@ -152,30 +151,22 @@ fn starts(settings: &Settings, faults: &mut Vec<Access>) {
 fn two_at_once(settings: &Settings, rng: &mut Rng, faults: &mut Vec<Access>) {
     let past = settings.base.wrapping_add(settings.length);
     for kind in [kind::WINDOW_READ, kind::WINDOW_WRITE] {
+        // causes 3, 4, 5 and 9
+        let unused = |access| Access { c: 1, ..access };
+        let lanes = |access| Access { s: 16, ..access };
+        let side = |access| Access {
+            side: LOCAL,
+            ..access
+        };
+        let address = |access| Access { a: past, ..access };
         let access = faultless(kind, settings);
-        let unused = Access { c: 1, ..access };
         faults.extend([
-            Access { s: 16, ..unused },
-            Access {
-                side: LOCAL,
-                ..unused
-            },
-            Access { a: past, ..unused },
-            Access {
-                side: LOCAL,
-                s: 16,
-                ..access
-            },
-            Access {
-                s: 16,
-                a: past,
-                ..access
-            },
-            Access {
-                side: LOCAL,
-                a: past,
-                ..access
-            },
+            lanes(unused(access)),
+            side(unused(access)),
+            address(unused(access)),
+            side(lanes(access)),
+            address(lanes(access)),
+            address(side(access)),
         ]);
     }
     let step = Access::new(kind::STEP, LOCAL, 1, 0, 0, 0);

@@ -6,3 +6,4 @@ pub mod coverage;
 pub mod faults;
 pub mod plans;
 pub mod scripts;
+pub mod sides;

@@ -40,20 +40,21 @@ impl First {
     }
 
     pub fn world(&self, shared: Vec<u8>, window: Vec<u8>) -> World {
-        match self {
-            First::Fresh(settings) => World::fresh(*settings, shared, window),
-            First::Record(card) => World {
-                card: card.clone(),
-                shared,
-                window,
-            },
+        let card = match self {
+            First::Fresh(settings) => fresh(*settings).1,
+            First::Record(card) => card.clone(),
+        };
+        World {
+            card,
+            shared,
+            window,
         }
     }
 }
 
 /// An abort range in the middle of the window.
-const MIDDLE: Settings = Settings::new(0x2000_0000, 256, 64, 128);
-/// The same in the smallest window that has dwords on both sides of it.
+pub const MIDDLE: Settings = Settings::new(0x2000_0000, 256, 64, 128);
+/// The same in a small window.
 const SMALL: Settings = Settings::new(0x0000_1000, 64, 24, 40);
 /// lo = hi: no abort range.
 const NO_ABORT: Settings = Settings::new(0xC000_0040, 128, 32, 32);
@@ -61,7 +62,7 @@ const NO_ABORT: Settings = Settings::new(0xC000_0040, 128, 32, 32);
 const TOP: Settings = Settings::new(4_294_967_040, 256, 192, 256);
 /// The same with the abort range in the middle.
 const TOP_MIDDLE: Settings = Settings::new(4_294_967_168, 128, 64, 96);
-const BASE_ZERO: Settings = Settings::new(0, 64, 16, 32);
+pub const BASE_ZERO: Settings = Settings::new(0, 64, 16, 32);
 const ALL_ABORT: Settings = Settings::new(0x7FFF_FFC0, 64, 0, 64);
 const NO_WINDOW: Settings = Settings::new(0x1000_0000, 0, 0, 0);
 /// hi is above the length.

@@ -7,7 +7,7 @@ mod trace;
 
 use crate::stored::Stored;
 
-pub use replay::{long_trace, FEWEST};
+pub use replay::{long_trace, FEWEST_RECORDS};
 
 /// A program by the name of its crate.
 struct Program {
@@ -16,7 +16,13 @@ struct Program {
     stdout: Vec<u8>,
 }
 
-/// Every program's files.
+/// Changes bytes of a trace record: of each its place, and the bits that change.
+fn change_bits(record: &mut [u8], changes: &[(usize, u8)]) {
+    for (at, bits) in changes {
+        record[*at] ^= bits;
+    }
+}
+
 pub fn files() -> Vec<Stored> {
     let programs = [pins::program(), trace::program(), device::program()];
     programs

@@ -3,22 +3,18 @@
 //! stdin: cases of 6 bytes: mode, pins, data (4 bytes, least byte first).
 //! stdout: for each a line with number, lanes and dword.
 
-use crate::pins::{decode, Decoded};
+use crate::decimal::line;
+use crate::pins::decode;
 use crate::rng::Rng;
+use crate::vectors::pins::{DATA, REFUSED_DATA};
 
 use super::Program;
 
 const SEED: u64 = 200;
 
-/// Data words: none and all of the bits, each byte of its own, each byte alone, and the bits that
-/// the modes tell apart.
-const DATA: [u32; 12] = [
-    0x0000_0000,
-    0xFFFF_FFFF,
-    0x1234_5678,
-    0xA1B2_C3D4,
-    0x0000_ABCD,
-    0x8040_2010,
+/// Data words besides those of the vectors: each byte alone, the bits at the borders of the halves,
+/// and once more four bytes that differ.
+const FURTHER_DATA: [u32; 6] = [
     0x0000_00FF,
     0x0000_FF00,
     0x00FF_0000,
@@ -35,11 +31,11 @@ fn cases() -> Vec<(u8, u8, u32)> {
     let mut cases = Vec::new();
     for mode in 0..=3 {
         for pins in 0..=15 {
-            cases.extend(DATA.map(|data| (mode, pins, data)));
-            cases.push((mode, pins, rng.word()));
+            let data = DATA.into_iter().chain(FURTHER_DATA).chain([rng.word()]);
+            cases.extend(data.map(|data| (mode, pins, data)));
         }
     }
-    let mut refused = |mode, pins| cases.extend([0, 0xA1B2_C3D4].map(|data| (mode, pins, data)));
+    let mut refused = |mode, pins| cases.extend(REFUSED_DATA.map(|data| (mode, pins, data)));
     for mode in REFUSED_MODES {
         for pins in (0..=15).chain(REFUSED_PINS) {
             refused(mode, pins);
@@ -59,12 +55,7 @@ pub fn program() -> Program {
     for (mode, pins, data) in cases() {
         stdin.extend([mode, pins]);
         stdin.extend(data.to_le_bytes());
-        let Decoded {
-            number,
-            lanes,
-            dword,
-        } = decode(mode, pins, data);
-        stdout += &format!("{number} {lanes} {dword}\n");
+        stdout += &line(decode(mode, pins, data).numbers());
     }
     Program {
         name: "pins_test",

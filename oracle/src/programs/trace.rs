@@ -6,10 +6,12 @@
 //! number after the expected one.
 
 use crate::access::Access;
+use crate::arbitrary;
+use crate::decimal::decimal;
 use crate::rng::Rng;
-use crate::trace::{next_number, read, record, refused, RECORD};
+use crate::trace::{next_number, read, record, refused, RECORD_LENGTH};
 
-use super::Program;
+use super::{change_bits, Program};
 
 const SEED: u64 = 300;
 /// The most bytes that a case reads.
@@ -39,9 +41,7 @@ impl Cases {
     /// A whole record with some bytes changed by their bits.
     fn changed(&mut self, expected: u16, changes: &[(usize, u8)]) {
         let mut bytes = record(expected, &EVERY_BYTE);
-        for (at, bits) in changes {
-            bytes[*at] ^= bits;
-        }
+        change_bits(&mut bytes, changes);
         self.add(expected, &bytes);
     }
 
@@ -79,7 +79,7 @@ fn whole(cases: &mut Cases) {
     }
     let highest = Access::new(255, 255, 255, u32::MAX, u32::MAX, u32::MAX);
     cases.add(3, &record(3, &highest));
-    for at in (4..RECORD).filter(|at| *at != 7) {
+    for at in (4..RECORD_LENGTH).filter(|at| *at != 7) {
         for value in [1, 128, 255] {
             let mut bytes = record(0, &Access::default());
             bytes[at] = value;
@@ -92,13 +92,13 @@ fn whole(cases: &mut Cases) {
 fn lengths(cases: &mut Cases) {
     for (expected, at, bits) in [(6, 0, 0), (6, 0, 1), (6, 2, 3), (6, 7, 1)] {
         let mut bytes = [0xEE; ROOM];
-        bytes[..RECORD].copy_from_slice(&record(expected, &EVERY_BYTE));
+        bytes[..RECORD_LENGTH].copy_from_slice(&record(expected, &EVERY_BYTE));
         bytes[at] ^= bits;
         for length in 0..=ROOM {
             cases.add(expected, &bytes[..length]);
         }
     }
-    for length in 0..RECORD {
+    for length in 0..RECORD_LENGTH {
         cases.add(0, &vec![0; length]);
     }
 }
@@ -149,14 +149,7 @@ fn random(cases: &mut Cases) {
     let mut rng = Rng::new(SEED);
     for _ in 0..90 {
         let number = rng.word() as u16;
-        let access = Access {
-            kind: rng.byte(),
-            side: rng.byte(),
-            s: rng.byte(),
-            a: rng.word(),
-            b: rng.word(),
-            c: rng.word(),
-        };
+        let access = arbitrary::access(&mut rng);
         let mut bytes = record(number, &access);
         if rng.one_in(3) {
             for _ in 0..2 {
@@ -170,17 +163,7 @@ fn random(cases: &mut Cases) {
 fn line(case: &Case) -> String {
     let next = next_number(case.expected);
     match read(&case.bytes, case.expected) {
-        Ok(access) => {
-            let Access {
-                kind,
-                side,
-                s,
-                a,
-                b,
-                c,
-            } = access;
-            format!("0 {kind} {side} {s} {a} {b} {c} {next}\n")
-        }
+        Ok(access) => format!("0 {} {next}\n", decimal(access.numbers())),
         Err(number) => format!("{number} {next}\n"),
     }
 }

@@ -2,7 +2,7 @@
 //! definitions.
 
 pub mod fresh;
-mod pins;
+pub mod pins;
 mod runs;
 pub mod sound;
 pub mod source;
@@ -38,7 +38,6 @@ pub fn is_run(name: &str) -> bool {
     name.starts_with("Run") && name.ends_with(".antt")
 }
 
-/// Every vector file.
 pub fn files() -> Vec<Stored> {
     let mut files: Vec<File> = runs::runs()
         .iter()

@@ -1,10 +1,12 @@
 //! Every mode with all pins, and what is refused.
 
-use crate::pins::{decode, Decoded};
+use crate::decimal::decimal;
+use crate::pins::decode;
 
 use super::text;
 
-const DATA: [u32; 6] = [
+/// Data words: none and all of the bits, and bytes that differ from each other.
+pub const DATA: [u32; 6] = [
     0x0000_0000,
     0xFFFF_FFFF,
     0x1234_5678,
@@ -12,6 +14,9 @@ const DATA: [u32; 6] = [
     0x0000_ABCD,
     0x8040_2010,
 ];
+
+/// The data of a refusal, which answers a dword of 0 whatever they are.
+pub const REFUSED_DATA: [u32; 2] = [0, 0xA1B2_C3D4];
 
 const REFUSED: [(u8, u8); 12] = [
     (4, 0),
@@ -36,19 +41,14 @@ fn cases() -> Vec<(u8, u8, u32)> {
         }
     }
     for (mode, pins) in REFUSED {
-        cases.push((mode, pins, 0));
-        cases.push((mode, pins, 0xA1B2_C3D4));
+        cases.extend(REFUSED_DATA.map(|data| (mode, pins, data)));
     }
     cases
 }
 
 fn line(mode: u8, pins: u8, data: u32) -> String {
-    let Decoded {
-        number,
-        lanes,
-        dword,
-    } = decode(mode, pins, data);
-    format!("pinCase {mode} {pins} {data} {number} {lanes} {dword}")
+    let decoded = decimal(decode(mode, pins, data).numbers());
+    format!("pinCase {mode} {pins} {data} {decoded}")
 }
 
 pub fn text() -> String {

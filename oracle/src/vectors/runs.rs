@@ -33,8 +33,7 @@ pub fn runs() -> Vec<Run> {
         .zip(1..)
         .map(|(plan, seed)| build(plan, seed, &mut coverage))
         .collect();
-    let missing = coverage.missing(required::facts());
-    assert!(missing.is_empty(), "not reached: {missing:#?}");
+    coverage.assert_reached(required::facts());
     let count = |holds: fn(&Run) -> bool| runs.iter().filter(|run| holds(run)).count();
     assert!(count(|run| run.first.card.settings != Settings::REPLAY) >= runs.len() / 2);
     assert!(count(|run| run.settings.is_none()) >= 4);

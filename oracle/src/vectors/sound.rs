@@ -20,13 +20,17 @@ const RANDOM: usize = 16;
 #[derive(Default)]
 struct Cases(Vec<(Card, bool)>);
 
+/// A fresh card with one change, after which it is sound or not.
+pub fn changed(settings: Settings, sound: bool, change: impl FnOnce(&mut Card)) -> Card {
+    let (_, mut card) = fresh(settings);
+    change(&mut card);
+    assert_eq!(card.sound(), sound, "{card:?}");
+    card
+}
+
 impl Cases {
-    /// A fresh card with one change.
     fn add(&mut self, sound: bool, change: impl FnOnce(&mut Card)) {
-        let (_, mut card) = fresh(SETTINGS);
-        change(&mut card);
-        assert_eq!(card.sound(), sound, "{card:?}");
-        self.0.push((card, sound));
+        self.0.push((changed(SETTINGS, sound, change), sound));
     }
 
     fn add_running(&mut self, sound: bool, transfer: Transfer, moved: u32) {

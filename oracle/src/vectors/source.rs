@@ -1,5 +1,6 @@
 //! Requests for a transfer's source.
 
+use crate::drive::plans::BASE_ZERO;
 use crate::settings::Settings;
 use crate::source::{source, Memory, Part};
 use crate::transfer::{Transfer, SHARED_LENGTH};
@@ -16,7 +17,6 @@ pub struct Case {
 
 const WINDOW: Settings = Settings::new(268_435_456, 256, 64, 128);
 const TOP: Settings = Settings::new(4_294_967_168, 128, 0, 32);
-const BASE_ZERO: Settings = Settings::new(0, 64, 16, 32);
 const NO_WINDOW: Settings = Settings::new(4096, 0, 0, 0);
 const WHOLE: Settings = Settings::new(65_536, 16_384, 0, 0);
 

@@ -2,7 +2,7 @@
 
 use crate::access::{Access, Answer};
 use crate::card::Card;
-use crate::interrupts::Register;
+use crate::decimal::decimal;
 use crate::settings::Settings;
 use crate::transfer::Transfer;
 
@@ -40,23 +40,11 @@ pub fn entries(items: impl IntoIterator<Item = String>) -> String {
 }
 
 pub fn settings(settings: &Settings) -> String {
-    let Settings {
-        base,
-        length,
-        lo,
-        hi,
-    } = settings;
-    format!("(settings {base} {length} {lo} {hi})")
+    format!("(settings {})", decimal(settings.numbers()))
 }
 
 pub fn transfer(transfer: &Transfer) -> String {
-    let Transfer {
-        direction,
-        shared,
-        pci,
-        size,
-    } = transfer;
-    format!("(transfer {direction} {shared} {pci} {size})")
+    format!("(transfer {})", decimal(transfer.numbers()))
 }
 
 pub fn card(card: &Card) -> String {
@@ -65,11 +53,6 @@ pub fn card(card: &Card) -> String {
         format!("flags {} {}", pair.host, pair.local)
     });
     let mail = &card.mailboxes;
-    let Register { enables, status } = card.hint;
-    let interrupts = format!(
-        "{enables} {status} {} {}",
-        card.lint.enables, card.lint.status
-    );
     let dma = match &card.running {
         None => "idle".to_string(),
         Some(running) => format!(
@@ -83,7 +66,7 @@ pub fn card(card: &Card) -> String {
         format!("({fifos})"),
         format!("({flags})"),
         format!("(mail {} {} {})", mail.hldata, mail.lhdata, mail.written),
-        format!("(interrupts {interrupts})"),
+        format!("(interrupts {})", decimal(card.register_numbers())),
         format!("{dma})"),
     ]
     .join(&format!("\n{INDENT}"))
@@ -113,14 +96,6 @@ fn leading_zeros(memory: &[u8]) -> usize {
 }
 
 pub fn entry(access: &Access, answer: &Answer) -> String {
-    let Access {
-        kind,
-        side,
-        s,
-        a,
-        b,
-        c,
-    } = access;
-    let Answer { number, v, x } = answer;
-    format!("q {kind} {side} {s} {a} {b} {c} gives r {number} {v} {x}")
+    let (access, answer) = (decimal(access.numbers()), decimal(answer.numbers()));
+    format!("q {access} gives r {answer}")
 }

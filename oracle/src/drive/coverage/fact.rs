@@ -22,7 +22,6 @@ impl Field {
         }
     }
 
-    /// The fields that a kind does not use.
     pub fn unused_by(kind: u8) -> Vec<Field> {
         let uses = USES[usize::from(kind)];
         [
@@ -144,12 +143,10 @@ pub enum Start {
 
 #[derive(Clone, Copy, Debug, PartialEq, Eq, PartialOrd, Ord)]
 pub enum Fact {
-    /// A kind was done for a side.
     Done {
         kind: u8,
         side: u8,
     },
-    /// A kind was refused with a number.
     Refused {
         kind: u8,
         number: u8,

@@ -36,10 +36,10 @@ impl Coverage {
         self.transfers = Default::default();
     }
 
-    /// Those of these facts that were not reached.
-    pub fn missing(&self, mut facts: Vec<Fact>) -> Vec<Fact> {
+    /// Panics with those of these facts that were not reached.
+    pub fn assert_reached(&self, mut facts: Vec<Fact>) {
         facts.retain(|fact| !self.reached.contains(fact));
-        facts
+        assert!(facts.is_empty(), "not reached: {facts:#?}");
     }
 
     pub fn observe(&mut self, observed: &Observed) {
@@ -61,18 +61,14 @@ impl Coverage {
 }
 
 fn refusal(observed: &Observed, facts: &mut Vec<Fact>) {
-    let Observed {
-        before,
-        access,
-        answer,
-        ..
-    } = observed;
+    let Observed { access, answer, .. } = observed;
     let (kind, given) = (access.kind, answer.number);
     facts.push(Fact::Refused {
         kind,
         number: given,
     });
-    for also in (given + 1..=10).filter(|number| before.cause(*number, access)) {
+    let holds = |number: &u8| observed.before.cause(*number, access);
+    for also in (given + 1..=10).filter(holds) {
         facts.push(Fact::Over { given, also });
         facts.push(Fact::KindOver { kind, given, also });
     }
@@ -96,14 +92,9 @@ fn refusal(observed: &Observed, facts: &mut Vec<Fact>) {
 
 /// Where kinds 1 to 4 fall.
 fn place(observed: &Observed, facts: &mut Vec<Fact>) {
-    let Observed {
-        before,
-        access,
-        answer,
-        ..
-    } = observed;
+    let Observed { access, answer, .. } = observed;
     let kind = access.kind;
-    let settings = before.card.settings;
+    let settings = observed.before.card.settings;
     let of_window = kind >= kind::WINDOW_READ;
     let (first, length) = if of_window {
         (i64::from(settings.base), i64::from(settings.length))

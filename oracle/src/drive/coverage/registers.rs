@@ -105,11 +105,8 @@ impl History {
         let (old, new) = (&observed.before.card, &observed.after.card);
         let side = access.side;
         let following = old.following();
-        let (own, own_after) = if side == 0 {
-            (old.hint, new.hint)
-        } else {
-            (old.lint, new.lint)
-        };
+        let caller = access.caller();
+        let (own, own_after) = (old.register(caller), new.register(caller));
         match access.kind {
             kind::INTERRUPT_READ => {
                 if let Some((event, positions)) = self.raised {

@@ -135,8 +135,7 @@ fn start(settings: &Settings, access: &Access, number: u8, facts: &mut Vec<Fact>
 }
 
 fn step_places(settings: &Settings, address: i64) -> impl Iterator<Item = StepPlace> {
-    let [base, length, lo, hi] =
-        [settings.base, settings.length, settings.lo, settings.hi].map(i64::from);
+    let [base, length, lo, hi] = settings.numbers().map(i64::from);
     [
         (StepPlace::BeforeLo, base + lo - 4),
         (StepPlace::AtLo, base + lo),

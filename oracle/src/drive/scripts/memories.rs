@@ -2,7 +2,8 @@
 
 use crate::access::{kind, Access};
 
-use super::super::builder::{Builder, HOST, LOCAL};
+use super::super::builder::Builder;
+use super::super::sides::{HOST, LOCAL};
 
 /// Every lane mask on both memories, the abort range too.
 pub fn lanes(b: &mut Builder) {

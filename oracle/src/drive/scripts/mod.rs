@@ -7,9 +7,13 @@ pub mod transfers;
 use crate::access::kind;
 use crate::refusal::LAST_KIND;
 
-use super::builder::{Builder, HOST, LOCAL};
+use super::builder::Builder;
 use super::faults::{faultless, faults};
+use super::sides::{HOST, LOCAL};
 use memories::borders;
+
+/// The accesses of `all_refused`: random ones follow them in every list.
+const PLANNED_REFUSALS: usize = 42;
 
 /// A window without bytes: each step is a master abort.
 pub fn no_window(b: &mut Builder) {
@@ -18,22 +22,19 @@ pub fn no_window(b: &mut Builder) {
     for direction in [0, 1] {
         b.start(HOST, direction, 0, base, 8);
         b.plain(kind::STEP, LOCAL);
-        b.registers();
+        b.read_registers();
         b.plain(kind::STEP, HOST);
         b.value(kind::INTERRUPT_WRITE, direction, 0x0200_0200);
-        b.lines();
+        b.read_lines();
     }
 }
 
 /// Every kind, and faults of every number, where all is refused with 1.
 pub fn all_refused(b: &mut Builder) {
     let settings = b.settings();
-    for kind in 0..=LAST_KIND {
-        let access = faultless(kind, &settings);
-        b.access(access);
-    }
+    b.perform((0..=LAST_KIND).map(|kind| faultless(kind, &settings)));
     let faults = faults(&settings, &mut b.rng);
-    while b.entries.len() < 42 {
+    while b.entries.len() < PLANNED_REFUSALS {
         let fault = b.rng.pick(&faults);
         b.access(fault);
     }

@@ -2,7 +2,8 @@
 
 use crate::access::{kind, Access};
 
-use super::super::builder::{Builder, HOST, LOCAL};
+use super::super::builder::Builder;
+use super::super::sides::{HOST, LOCAL};
 
 /// Up to, at and past the abort range, from both directions.
 pub fn abort_range(b: &mut Builder) {
@@ -10,24 +11,18 @@ pub fn abort_range(b: &mut Builder) {
     let lo = settings.base.wrapping_add(settings.lo);
     let hi = settings.base.wrapping_add(settings.hi);
     for direction in [0, 1] {
-        b.start(HOST, direction, 16, lo.wrapping_sub(8), 12);
-        b.step_to_end();
-        b.registers();
-        b.value(kind::INTERRUPT_WRITE, HOST, 0x0100_0320);
-        b.value(kind::INTERRUPT_WRITE, LOCAL, 0x0120_0320);
-        b.start(LOCAL, direction, 64, hi.wrapping_sub(4), 8);
-        b.step_to_end();
-        b.start(HOST, direction, 128, hi, 8);
-        b.step_to_end();
-        b.start(LOCAL, direction, 136, hi, 4);
-        b.step_to_end();
+        b.run_transfer(HOST, direction, 16, lo.wrapping_sub(8), 12);
+        b.read_registers();
+        b.write_registers(0x0100_0320, 0x0120_0320);
+        b.run_transfer(LOCAL, direction, 64, hi.wrapping_sub(4), 8);
+        b.run_transfer(HOST, direction, 128, hi, 8);
+        b.run_transfer(LOCAL, direction, 136, hi, 4);
         b.start(HOST, direction, 140, lo.wrapping_sub(4), 4);
         b.plain(kind::STEP, LOCAL);
     }
-    b.start(HOST, 0, 16, lo, 8);
-    b.step_to_end();
-    b.registers();
-    b.lines();
+    b.run_transfer(HOST, 0, 16, lo, 8);
+    b.read_registers();
+    b.read_lines();
 }
 
 /// Across the end of the window and from below its base.
@@ -35,42 +30,37 @@ pub fn window_borders(b: &mut Builder) {
     let settings = b.settings();
     let end = settings.base.wrapping_add(settings.length);
     for direction in [0, 1] {
-        b.start(LOCAL, direction, 24, end.wrapping_sub(8), 12);
-        b.step_to_end();
-        b.registers();
-        b.value(kind::INTERRUPT_WRITE, HOST, 0x0220_0220);
-        b.value(kind::INTERRUPT_WRITE, LOCAL, 0x0200_0220);
+        b.run_transfer(LOCAL, direction, 24, end.wrapping_sub(8), 12);
+        b.read_registers();
+        b.write_registers(0x0220_0220, 0x0200_0220);
         b.start(HOST, direction, 48, settings.base.wrapping_sub(4), 8);
         b.plain(kind::STEP, HOST);
-        b.start(LOCAL, direction, 16_376, end.wrapping_sub(8), 8);
-        b.step_to_end();
-        b.registers();
-        b.start(HOST, direction, 16_380, end.wrapping_sub(4), 4);
-        b.step_to_end();
+        b.run_transfer(LOCAL, direction, 16_376, end.wrapping_sub(8), 8);
+        b.read_registers();
+        b.run_transfer(HOST, direction, 16_380, end.wrapping_sub(4), 4);
         b.start(HOST, direction, 0, settings.base, 16);
         b.plain(kind::STEP, LOCAL);
         b.plain(kind::RESET, LOCAL);
         b.plain(kind::STEP, LOCAL);
     }
-    b.registers();
+    b.read_registers();
 }
 
 /// Starts that meet their bounds exactly, and starts and writes while a transfer runs.
 pub fn starts(b: &mut Builder) {
-    let settings = b.settings();
-    let base = settings.base;
+    let base = b.settings().base;
     for direction in [0, 1] {
         b.start(HOST, direction, 0, base, 16);
         b.plain(kind::STEP, LOCAL);
-        for (s, a, pci, size) in [
-            (direction, 0, base, 4),
-            (2, 0, base, 4),
-            (2, 0, base, 3),
-            (direction, 0, base, 0),
-            (direction, 0, base, 6),
-            (direction, 2, base, 4),
+        for (s, shared, size) in [
+            (direction, 0, 4),
+            (2, 0, 4),
+            (2, 0, 3),
+            (direction, 0, 0),
+            (direction, 0, 6),
+            (direction, 2, 4),
         ] {
-            b.start(LOCAL, s, a, pci, size);
+            b.start(LOCAL, s, shared, base, size);
         }
         b.start(2, direction, 0, base, 4);
         b.access(Access::new(
@@ -86,10 +76,8 @@ pub fn starts(b: &mut Builder) {
         b.access(Access::new(kind::SHARED_READ, LOCAL, 0, 4, 0, 0));
         b.access(Access::new(kind::WINDOW_READ, HOST, 0, base + 4, 0, 0));
         b.plain(kind::RESET, HOST);
-        b.start(LOCAL, direction, 0, 4_294_950_912, 16_384);
-        b.step_to_end();
-        b.start(LOCAL, direction, 16_376, 4_294_967_288, 8);
-        b.step_to_end();
+        b.run_transfer(LOCAL, direction, 0, 4_294_950_912, 16_384);
+        b.run_transfer(LOCAL, direction, 16_376, 4_294_967_288, 8);
     }
 }
 

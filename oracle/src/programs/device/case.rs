@@ -1,50 +1,57 @@
 //! One case: its numbers, and what is answered.
 
-use crate::access::{Access, Answer};
+use crate::access::Access;
 use crate::card::{fresh, Card, FIFO_DEPTH};
+use crate::decimal::line;
 use crate::drive::plans::First;
 use crate::settings::Settings;
 use crate::source::source;
 use crate::transfer::{Running, Transfer, SHARED_LENGTH};
 use crate::world::World;
 
-/// The lengths of both memories, and the seed of their bytes.
-#[derive(Clone, Copy)]
-pub struct Memories {
-    pub shared_length: u32,
-    pub window_length: u32,
-    pub seed: u32,
+/// The first number of a case's head.
+const CARD_RECORD: u32 = 0;
+const FRESH_CARD: u32 = 1;
+const SOURCE_REQUESTS: u32 = 2;
+
+/// What stands in standard input, and what must stand in standard output.
+pub struct Case {
+    pub numbers: Vec<u32>,
+    pub text: String,
 }
 
-pub enum Case {
-    Accesses {
-        first: First,
-        memories: Memories,
-        accesses: Vec<Access>,
-    },
-    Sources {
-        settings: Settings,
-        memories: Memories,
-        transfers: Vec<Transfer>,
-    },
+/// The lengths of both memories, and the seed of their bytes.
+pub struct Memories {
+    shared_length: u32,
+    window_length: u32,
+    seed: u32,
 }
 
 impl Memories {
-    /// Memories of the right lengths.
-    pub fn fit(window_length: u32, seed: u32) -> Memories {
+    /// The memories of the case with this number. Each case takes two seeds, one for each memory.
+    pub fn of_case(number: usize, shared_length: u32, window_length: u32) -> Memories {
         Memories {
-            shared_length: SHARED_LENGTH,
+            shared_length,
             window_length,
-            seed,
+            seed: 2 * number as u32,
         }
     }
 
-    pub fn shared(&self) -> Vec<u8> {
+    /// The same, with shared memory of the right length.
+    pub fn fit(number: usize, window_length: u32) -> Memories {
+        Memories::of_case(number, SHARED_LENGTH, window_length)
+    }
+
+    fn shared(&self) -> Vec<u8> {
         bytes(self.seed, self.shared_length)
     }
 
-    pub fn window(&self) -> Vec<u8> {
+    fn window(&self) -> Vec<u8> {
         bytes(self.seed + 1, self.window_length)
+    }
+
+    pub fn world(&self, first: &First) -> World {
+        first.world(self.shared(), self.window())
     }
 }
 
@@ -64,85 +71,48 @@ fn digest(bytes: &[u8]) -> u32 {
 }
 
 impl Case {
-    /// What stands in standard input.
-    pub fn numbers(&self) -> Vec<u32> {
-        match self {
-            Case::Accesses {
-                first,
-                memories,
-                accesses,
-            } => {
-                let what = u32::from(first.is_fresh());
-                let mut numbers = head(what, &first.settings(), memories, accesses.len());
-                if let First::Record(card) = first {
-                    record(card, &mut numbers);
-                }
-                numbers.extend(accesses.iter().flat_map(access));
-                numbers
-            }
-            Case::Sources {
-                settings,
-                memories,
-                transfers,
-            } => {
-                let mut numbers = head(2, settings, memories, transfers.len());
-                numbers.extend(transfers.iter().flat_map(request));
-                numbers
-            }
+    /// Accesses to a card, and what they leave.
+    pub fn of_accesses(first: &First, memories: &Memories, accesses: &[Access]) -> Case {
+        let head = |what| head(what, &first.settings(), memories, accesses.len());
+        let (mut numbers, mut text) = match first {
+            First::Record(card) => ([head(CARD_RECORD), record(card)].concat(), String::new()),
+            First::Fresh(settings) => (head(FRESH_CARD), line([fresh(*settings).0.into()])),
+        };
+        let mut world = memories.world(first);
+        for access in accesses {
+            numbers.extend(packed(access));
+            text += &line(world.access(*access).numbers());
         }
+        text += &world_text(&world);
+        Case { numbers, text }
     }
 
-    /// What stands in standard output.
-    pub fn text(&self) -> String {
-        match self {
-            Case::Accesses {
-                first,
-                memories,
-                accesses,
-            } => {
-                let mut text = String::new();
-                if let First::Fresh(settings) = first {
-                    text += &line([fresh(*settings).0.into()]);
-                }
-                let mut world = first.world(memories.shared(), memories.window());
-                for access in accesses {
-                    let Answer { number, v, x } = world.access(*access);
-                    text += &line([number.into(), v, x]);
-                }
-                text + &world_text(&world)
-            }
-            Case::Sources {
-                settings,
-                memories,
-                transfers,
-            } => {
-                let (shared, window) = (memories.shared(), memories.window());
-                let part = |transfer: &Transfer| {
-                    let part = source(*settings, &shared, &window, *transfer);
-                    let bytes = part.of(&shared, &window);
-                    line([bytes.len() as u32, digest(bytes)])
-                };
-                transfers.iter().map(part).collect()
-            }
+    /// Requests for the sources of transfers.
+    pub fn of_requests(settings: Settings, memories: &Memories, transfers: &[Transfer]) -> Case {
+        let (shared, window) = (memories.shared(), memories.window());
+        let mut numbers = head(SOURCE_REQUESTS, &settings, memories, transfers.len());
+        let mut text = String::new();
+        for transfer in transfers {
+            numbers.extend(request(transfer));
+            let part = source(settings, &shared, &window, *transfer);
+            let bytes = part.of(&shared, &window);
+            text += &line([bytes.len() as u32, digest(bytes)]);
         }
+        Case { numbers, text }
     }
 }
 
 fn head(what: u32, settings: &Settings, memories: &Memories, count: usize) -> Vec<u32> {
-    vec![
-        what,
-        settings.base,
-        settings.length,
-        settings.lo,
-        settings.hi,
-        memories.shared_length,
-        memories.window_length,
-        memories.seed,
-        count as u32,
-    ]
+    let lengths = [memories.shared_length, memories.window_length];
+    let mut head = vec![what];
+    head.extend(settings.numbers());
+    head.extend(lengths);
+    head.extend([memories.seed, count as u32]);
+    head
 }
 
-fn record(card: &Card, numbers: &mut Vec<u32>) {
+fn record(card: &Card) -> Vec<u32> {
+    let mut numbers = Vec::new();
     for fifo in &card.fifos {
         numbers.push(fifo.len() as u32);
         numbers.extend((0..FIFO_DEPTH).map(|at| fifo.get(at).copied().unwrap_or(0)));
@@ -150,10 +120,11 @@ fn record(card: &Card, numbers: &mut Vec<u32>) {
     let pairs = card.pairs.iter();
     numbers.extend(pairs.map(|pair| u32::from(pair.host) + 2 * u32::from(pair.local)));
     numbers.extend(mailboxes(card));
-    numbers.extend(registers(card));
+    numbers.extend(card.register_numbers());
     let mut transfer = running(card);
     transfer.resize(6, 0);
     numbers.extend(transfer);
+    numbers
 }
 
 fn mailboxes(card: &Card) -> [u32; 3] {
@@ -161,41 +132,29 @@ fn mailboxes(card: &Card) -> [u32; 3] {
     [mail.hldata, mail.lhdata, mail.written.into()]
 }
 
-fn registers(card: &Card) -> [u32; 4] {
-    let (hint, lint) = (&card.hint, &card.lint);
-    [hint.enables, hint.status, lint.enables, lint.status]
-}
-
 /// 0, or 1 and the numbers of the transfer that runs.
 fn running(card: &Card) -> Vec<u32> {
     let Some(Running { transfer, moved }) = card.running else {
         return vec![0];
     };
-    let Transfer {
-        direction,
-        shared,
-        pci,
-        size,
-    } = transfer;
-    vec![1, direction.into(), shared, pci, size, moved]
+    let [direction, shared, pci, size] = transfer.numbers();
+    vec![1, direction, shared, pci, size, moved]
 }
 
-fn access(access: &Access) -> [u32; 4] {
-    let Access { kind, side, s, .. } = *access;
-    let packed = u32::from_le_bytes([kind, side, s, 0]);
-    [packed, access.a, access.b, access.c]
+fn packed(access: &Access) -> [u32; 4] {
+    let [kind, side, s, a, b, c] = access.numbers();
+    [kind | side << 8 | s << 16, a, b, c]
 }
 
 fn request(transfer: &Transfer) -> [u32; 4] {
-    let packed = u32::from_le_bytes([0, 0, transfer.direction, 0]);
-    [packed, transfer.shared, transfer.pci, transfer.size]
+    let [direction, shared, pci, size] = transfer.numbers();
+    [direction << 16, shared, pci, size]
 }
 
 /// The record and the digests.
 fn world_text(world: &World) -> String {
     let card = &world.card;
-    let settings = &card.settings;
-    let mut text = line([settings.base, settings.length, settings.lo, settings.hi]);
+    let mut text = line(card.settings.numbers());
     for fifo in &card.fifos {
         let held = fifo.iter().take(FIFO_DEPTH).copied();
         text += &line([fifo.len() as u32].into_iter().chain(held));
@@ -203,12 +162,7 @@ fn world_text(world: &World) -> String {
     let flags = card.pairs.iter().flat_map(|pair| [pair.host, pair.local]);
     text += &line(flags.map(u32::from));
     text += &line(mailboxes(card));
-    text += &line(registers(card));
+    text += &line(card.register_numbers());
     text += &line(running(card));
     text + &line([digest(&world.shared), digest(&world.window)])
-}
-
-fn line(numbers: impl IntoIterator<Item = u32>) -> String {
-    let numbers: Vec<String> = numbers.into_iter().map(|n| n.to_string()).collect();
-    format!("{}\n", numbers.join(" "))
 }

@@ -1,17 +1,18 @@
-//! The cases.
+//! The cases: what a replay cannot reach, then planned and random lists, then source requests.
 
 use std::collections::BTreeSet;
 
 use crate::access::{kind, Access};
 use crate::arbitrary;
 use crate::card::{fresh, Card, FIFOS, PAIRS};
-use crate::drive::builder::{Builder, HOST, LOCAL};
+use crate::drive::builder::Builder;
 use crate::drive::coverage::{required, Coverage};
 use crate::drive::faults::faultless;
-use crate::drive::plans::{plans, First};
-use crate::refusal::{LAST_KIND, PUT_BY};
+use crate::drive::plans::{plans, First, MIDDLE};
+use crate::drive::sides::{by_both, putter, taker, HOST, LOCAL};
+use crate::refusal::LAST_KIND;
 use crate::rng::Rng;
-use crate::settings::Settings;
+use crate::settings::{Settings, LENGTH_LIMIT};
 use crate::transfer::{Running, Transfer, SHARED_LENGTH};
 use crate::vectors::{fresh as settings_cases, sound, source};
 
@@ -24,7 +25,6 @@ const RANDOM: usize = 24;
 const RANDOM_LISTS: usize = 120;
 const RANDOM_SOURCES: usize = 60;
 
-const MIDDLE: Settings = Settings::new(0x2000_0000, 256, 64, 128);
 const LARGEST: Settings = Settings::new(0xFFFF_0000, 65_536, 32_768, 49_152);
 
 pub fn cases() -> Vec<Case> {
@@ -42,16 +42,15 @@ pub fn cases() -> Vec<Case> {
 fn probe(settings: &Settings) -> Vec<Access> {
     let mut list = Vec::new();
     for kind in [kind::INTERRUPT_READ, kind::LINE, kind::MAILBOX_READ] {
-        list.extend([HOST, LOCAL].map(|side| Access::new(kind, side, 0, 0, 0, 0)));
+        list.extend(by_both(kind, 0));
     }
-    list.extend([HOST, LOCAL].map(|side| Access::new(kind::STEP, side, 0, 0, 0, 0)));
-    for (fifo, putter) in (0..).zip(PUT_BY) {
-        let putter = putter as u8;
-        list.push(Access::new(kind::TAKE, 1 - putter, fifo, 0, 0, 0));
-        list.push(Access::new(kind::PUT, putter, fifo, 0, u32::MAX, 0));
-        list.push(Access::new(kind::PUT, putter, fifo, 0, 0, 0));
-        list.push(Access::new(kind::CLAIM, HOST, fifo, 0, 0, 0));
-        list.push(Access::new(kind::CLAIM, LOCAL, fifo, 0, 0, 0));
+    list.extend(by_both(kind::STEP, 0));
+    for fifo in 0..4 {
+        let put = |entry| Access::new(kind::PUT, putter(fifo), fifo, 0, entry, 0);
+        list.push(Access::new(kind::TAKE, taker(fifo), fifo, 0, 0, 0));
+        list.extend([put(u32::MAX), put(0)]);
+        // the pair of the same number
+        list.extend(by_both(kind::CLAIM, fifo));
     }
     list.extend((kind::SHARED_READ..=LAST_KIND).map(|kind| faultless(kind, settings)));
     list
@@ -72,28 +71,22 @@ fn every_kind(settings: &Settings) -> Vec<Access> {
     list
 }
 
-fn on_record(card: Card, memories: Memories) -> Case {
-    let accesses = if card.sound() {
-        probe(&card.settings)
-    } else {
-        every_kind(&card.settings)
-    };
-    Case::Accesses {
-        first: First::Record(card),
-        memories,
-        accesses,
-    }
-}
-
 /// Sound and unsound records, each rule alone, at its border.
 fn records(cases: &mut Vec<Case>) {
     let mut unsound = 0;
     let given = sound::cases().into_iter().map(|(card, _)| card);
     let written_down = |card: &Card| card.fifos.len() == FIFOS && card.pairs.len() == PAIRS;
     for card in given.chain(further_records()).filter(written_down) {
-        unsound += usize::from(!card.sound());
-        let memories = Memories::fit(card.settings.length.min(65_536), 2 * cases.len() as u32);
-        cases.push(on_record(card, memories));
+        let settings = card.settings;
+        let accesses = if card.sound() {
+            probe(&settings)
+        } else {
+            unsound += 1;
+            every_kind(&settings)
+        };
+        let memories = Memories::fit(cases.len(), settings.length.min(LENGTH_LIMIT));
+        let first = First::Record(card);
+        cases.push(Case::of_accesses(&first, &memories, &accesses));
     }
     assert!(
         unsound >= 100 && cases.len() >= unsound + 80,
@@ -105,12 +98,7 @@ fn records(cases: &mut Vec<Case>) {
 /// Numbers that are sound once they are cut to fewer bits.
 fn further_records() -> Vec<Card> {
     let mut cards = Vec::new();
-    let mut add = |change: &dyn Fn(&mut Card)| {
-        let (_, mut card) = fresh(MIDDLE);
-        change(&mut card);
-        assert!(!card.sound());
-        cards.push(card);
-    };
+    let mut add = |change: &dyn Fn(&mut Card)| cards.push(sound::changed(MIDDLE, false, change));
     for fifo in 0..FIFOS {
         for count in [34, 64, 255, 256 + 5, 65_536 + 5] {
             add(&|card| card.fifos[fifo] = (0..count).collect());
@@ -151,16 +139,10 @@ fn further_records() -> Vec<Card> {
 /// Memories of wrong lengths.
 fn lengths(cases: &mut Vec<Case>) {
     let mut add = |settings: Settings, shared_length, window_length| {
-        let seed = 2 * cases.len() as u32;
-        cases.push(Case::Accesses {
-            first: First::Fresh(settings),
-            memories: Memories {
-                shared_length,
-                window_length,
-                seed,
-            },
-            accesses: every_kind(&settings),
-        });
+        let first = First::Fresh(settings);
+        let memories = Memories::of_case(cases.len(), shared_length, window_length);
+        let accesses = every_kind(&settings);
+        cases.push(Case::of_accesses(&first, &memories, &accesses));
     };
     for shared in [0, 4, 8192, 16_380, 16_383, 16_385, 16_388, 32_768, 65_536] {
         add(MIDDLE, shared, MIDDLE.length);
@@ -197,16 +179,13 @@ fn settings(cases: &mut Vec<Case>) {
         let given = fresh(settings).1.settings;
         let mut lengths = BTreeSet::from([given.length]);
         if !passes {
-            lengths.insert(settings.length.min(65_536));
+            lengths.insert(settings.length.min(LENGTH_LIMIT));
         }
+        let first = First::Fresh(settings);
+        let accesses = [probe(&given), probe(&settings)].concat();
         for length in lengths {
-            let mut accesses = probe(&given);
-            accesses.extend(probe(&settings));
-            cases.push(Case::Accesses {
-                first: First::Fresh(settings),
-                memories: Memories::fit(length, 2 * cases.len() as u32),
-                accesses,
-            });
+            let memories = Memories::fit(cases.len(), length);
+            cases.push(Case::of_accesses(&first, &memories, &accesses));
         }
     }
 }
@@ -217,24 +196,14 @@ fn planned(cases: &mut Vec<Case>) {
     let mut coverage = Coverage::default();
     for (mut plan, number) in plans().into_iter().zip(0..) {
         plan.faults = plan.faults.map(|_| (0, 1));
-        let memories = Memories {
-            shared_length: plan.shared_length,
-            window_length: plan.window_length,
-            seed: 2 * cases.len() as u32,
-        };
-        let world = plan.first.world(memories.shared(), memories.window());
+        let memories = Memories::of_case(cases.len(), plan.shared_length, plan.window_length);
+        let world = memories.world(&plan.first);
         let mut builder = Builder::new(world, Rng::new(SEED + number), &mut coverage);
         builder.follow(&plan, PLANNED);
         let accesses = builder.accesses();
-        let first = plan.first;
-        cases.push(Case::Accesses {
-            first,
-            memories,
-            accesses,
-        });
+        cases.push(Case::of_accesses(&plan.first, &memories, &accesses));
     }
-    let missing = coverage.missing(required::facts());
-    assert!(missing.is_empty(), "not reached: {missing:#?}");
+    coverage.assert_reached(required::facts());
 }
 
 /// Random accesses to random records.
@@ -242,35 +211,24 @@ fn random(cases: &mut Vec<Case>) {
     let mut rng = Rng::new(SEED - 1);
     let mut coverage = Coverage::default();
     for _ in 0..RANDOM_LISTS {
-        let card = arbitrary::sound_card(&mut rng);
-        let memories = Memories::fit(card.settings.length, 2 * cases.len() as u32);
-        let first = First::Record(card);
-        let world = first.world(memories.shared(), memories.window());
+        let first = First::Record(arbitrary::sound_card(&mut rng));
+        let memories = Memories::fit(cases.len(), first.settings().length);
+        let world = memories.world(&first);
         let mut builder = Builder::new(world, Rng::new(rng.number()), &mut coverage);
         for _ in 0..RANDOM {
             builder.random();
         }
         let accesses = builder.accesses();
-        cases.push(Case::Accesses {
-            first,
-            memories,
-            accesses,
-        });
+        cases.push(Case::of_accesses(&first, &memories, &accesses));
     }
 }
 
 /// Source requests: those of the vectors, and random ones over large windows.
 fn sources(cases: &mut Vec<Case>) {
     for request in source::cases() {
-        cases.push(Case::Sources {
-            settings: request.settings,
-            memories: Memories {
-                shared_length: request.shared_length,
-                window_length: request.window_length,
-                seed: 2 * cases.len() as u32,
-            },
-            transfers: vec![request.transfer],
-        });
+        let memories = Memories::of_case(cases.len(), request.shared_length, request.window_length);
+        let transfers = [request.transfer];
+        cases.push(Case::of_requests(request.settings, &memories, &transfers));
     }
     let mut rng = Rng::new(SEED - 2);
     for settings in [Settings::REPLAY, LARGEST] {
@@ -280,10 +238,8 @@ fn sources(cases: &mut Vec<Case>) {
             let pci = settings.base + 4 * rng.below((settings.length - size) / 4 + 1);
             Transfer::new(rng.below(2) as u8, shared, pci, size)
         };
-        cases.push(Case::Sources {
-            settings,
-            memories: Memories::fit(settings.length, 2 * cases.len() as u32),
-            transfers: (0..RANDOM_SOURCES).map(random).collect(),
-        });
+        let transfers: Vec<Transfer> = (0..RANDOM_SOURCES).map(random).collect();
+        let memories = Memories::fit(cases.len(), settings.length);
+        cases.push(Case::of_requests(settings, &memories, &transfers));
     }
 }

@@ -29,19 +29,19 @@ mod case;
 mod cases;
 
 use super::Program;
+use case::Case;
 
 /// What the input has room for.
-const LIMIT: usize = 1_000_000;
+const INPUT_LIMIT: usize = 1_000_000;
 
 pub fn program() -> Program {
-    let cases = cases::cases();
     let mut stdin = Vec::new();
     let mut stdout = String::new();
-    for case in &cases {
-        stdin.extend(case.numbers().into_iter().flat_map(u32::to_le_bytes));
-        stdout += &case.text();
+    for Case { numbers, text } in cases::cases() {
+        stdin.extend(numbers.into_iter().flat_map(u32::to_le_bytes));
+        stdout += &text;
     }
-    assert!(stdin.len() < LIMIT, "{}", stdin.len());
+    assert!(stdin.len() < INPUT_LIMIT, "{}", stdin.len());
     Program {
         name: "device_test",
         stdin,

@@ -3,12 +3,12 @@
 
 use std::collections::BTreeSet;
 
-use crate::access::Access;
-use crate::drive::builder::Builder;
-use crate::drive::coverage::Coverage;
-use crate::replay::{bench, text};
-use crate::rng::Rng;
-use crate::trace::{refused, trace, RECORD};
+use crate::access::{kind, Access};
+use crate::replay::text;
+use crate::trace::{refused, trace, RECORD_LENGTH};
+
+use super::super::change_bits;
+use super::scripted;
 
 const SEED: u64 = 700;
 /// The replay program reads 65,520 bytes at a time: so many records.
@@ -40,7 +40,7 @@ const BORDER_CHANGES: [(usize, usize); 5] = [
 
 /// Between them they end in every required line, or this panics.
 pub fn traces() -> Vec<Vec<u8>> {
-    let few = trace(&random(FEW, SEED));
+    let few = random(FEW, SEED);
     let mut traces = Vec::new();
     lengths(&few, &mut traces);
     changes(&few, &mut traces);
@@ -52,20 +52,13 @@ pub fn traces() -> Vec<Vec<u8>> {
 }
 
 /// Random accesses to a fresh card.
-fn random(count: usize, seed: u64) -> Vec<Access> {
-    let mut coverage = Coverage::default();
-    let mut builder = Builder::new(bench(), Rng::new(seed), &mut coverage);
-    for _ in 0..count {
-        builder.random();
-    }
-    builder.accesses()
+fn random(records: usize, seed: u64) -> Vec<u8> {
+    scripted(seed, |b| (0..records).for_each(|_| b.random()))
 }
 
 fn changed(trace: &[u8], record: usize, changes: &[(usize, u8)]) -> Vec<u8> {
     let mut trace = trace.to_vec();
-    for (at, bits) in changes {
-        trace[RECORD * record + at] ^= bits;
-    }
+    change_bits(&mut trace[RECORD_LENGTH * record..], changes);
     trace
 }
 
@@ -75,7 +68,7 @@ fn lengths(few: &[u8], traces: &mut Vec<Vec<u8>>) {
         traces.push(few[..length].to_vec());
     }
     let wrong = changed(few, 1, &[(0, 1), (2, 1)]);
-    for length in RECORD..2 * RECORD {
+    for length in RECORD_LENGTH..2 * RECORD_LENGTH {
         traces.push(wrong[..length].to_vec());
     }
     traces.push(vec![0; 19]);
@@ -98,26 +91,26 @@ fn changes(few: &[u8], traces: &mut Vec<Vec<u8>>) {
 /// A record or a byte that is lost, or stands there twice; records that changed places.
 fn lost_and_doubled(few: &[u8], traces: &mut Vec<Vec<u8>>) {
     for record in [0, 4, FEW - 1] {
-        let (before, rest) = few.split_at(RECORD * record);
-        let after = &rest[RECORD..];
+        let (before, rest) = few.split_at(RECORD_LENGTH * record);
+        let after = &rest[RECORD_LENGTH..];
         traces.push([before, after].concat());
-        traces.push([before, &rest[..RECORD], rest].concat());
+        traces.push([before, &rest[..RECORD_LENGTH], rest].concat());
         traces.push([before, &rest[1..]].concat());
         traces.push([before, &rest[..1], rest].concat());
     }
-    let (first, second) = (&few[..RECORD], &few[RECORD..2 * RECORD]);
-    traces.push([second, first].concat());
+    let (first, rest) = few.split_at(RECORD_LENGTH);
+    traces.push([&rest[..RECORD_LENGTH], first].concat());
 }
 
 /// Ends in, at and behind the end of a piece, and changes in the records around it.
 fn borders(traces: &mut Vec<Vec<u8>>) {
-    let whole = trace(&random(2 * PIECE + 1, SEED + 1));
-    let piece = RECORD * PIECE;
+    let whole = random(2 * PIECE + 1, SEED + 1);
+    let piece = RECORD_LENGTH * PIECE;
     for length in [piece - 10, piece, piece + 1, piece + 20, 2 * piece + 1] {
         traces.push(whole[..length].to_vec());
     }
     for (record, at) in BORDER_CHANGES {
-        let rest = &whole[..RECORD * (record + 1)];
+        let rest = &whole[..RECORD_LENGTH * (record + 1)];
         traces.push(changed(rest, record, &[(at, 1)]));
     }
 }
@@ -125,7 +118,7 @@ fn borders(traces: &mut Vec<Vec<u8>>) {
 /// The record number starts again at 0, and what is counted goes on.
 fn past_the_last_number(traces: &mut Vec<Vec<u8>>) {
     let records = usize::from(u16::MAX) + 3;
-    let reads = vec![Access::new(13, 0, 0, 0, 0, 0); records];
+    let reads = vec![Access::new(kind::LINE, 0, 0, 0, 0, 0); records];
     let last = records - 1;
     traces.push(changed(&trace(&reads), last, &[(2, 0xFF), (3, 0xFF)]));
 }

@@ -1,20 +1,21 @@
 //! The long trace: all that a replay can reach, and record numbers past 65,535.
 
 use crate::access::{kind, Access};
-use crate::drive::builder::{Builder, HOST, LOCAL};
+use crate::card::FIFO_DEPTH;
+use crate::drive::builder::Builder;
 use crate::drive::coverage::{required, Coverage};
 use crate::drive::faults::faults;
 use crate::drive::scripts::{memories, registers, transfers};
-use crate::refusal::PUT_BY;
+use crate::drive::sides::{by_both, taker, HOST, LOCAL};
 use crate::replay::bench;
 use crate::rng::Rng;
 use crate::transfer::SHARED_LENGTH;
 
 const SEED: u64 = 500;
 /// The records of the stored trace.
-pub const STORED: usize = 80_000;
+pub const STORED_RECORDS: usize = 80_000;
 /// The fewest records: their numbers start again at 0.
-pub const FEWEST: usize = 70_000;
+pub const FEWEST_RECORDS: usize = 70_000;
 /// No round has more accesses: a script may step the largest transfer to its end.
 const LONGEST_ROUND: usize = 5000;
 
@@ -41,7 +42,7 @@ pub const SCRIPTS: [fn(&mut Builder); 15] = [
 
 /// So many accesses, which reach every fact that is required of a replay; or panics.
 pub fn accesses(count: usize) -> Vec<Access> {
-    assert!(count >= FEWEST);
+    assert!(count >= FEWEST_RECORDS);
     let mut coverage = Coverage::default();
     let mut b = Builder::new(bench(), Rng::new(SEED), &mut coverage);
     for script in SCRIPTS {
@@ -57,13 +58,10 @@ pub fn accesses(count: usize) -> Vec<Access> {
     while b.entries.len() < until {
         rarely_reset(&mut b);
     }
-    for access in last {
-        b.access(access);
-    }
+    b.perform(last);
     let accesses = b.accesses();
     assert_eq!(accesses.len(), count);
-    let missing = coverage.missing(required::of_replay());
-    assert!(missing.is_empty(), "not reached: {missing:#?}");
+    coverage.assert_reached(required::of_replay());
     accesses
 }
 
@@ -74,9 +72,8 @@ fn whole_transfers(b: &mut Builder) {
         for _ in 0..100 {
             wide_access(b);
         }
-        b.start(HOST, direction, 0, base + 4096, SHARED_LENGTH);
-        b.step_to_end();
-        b.registers();
+        b.run_transfer(HOST, direction, 0, base + 4096, SHARED_LENGTH);
+        b.read_registers();
     }
 }
 
@@ -160,7 +157,7 @@ fn interleaved(b: &mut Builder) {
             _ => rarely_reset(b),
         }
     }
-    b.registers();
+    b.read_registers();
 }
 
 /// All that is left: the registers, the FIFOs, the mailboxes, the flags, and every dword of both
@@ -169,12 +166,13 @@ fn last_reads(b: &Builder) -> Vec<Access> {
     let settings = b.settings();
     let mut list = Vec::new();
     for kind in [kind::INTERRUPT_READ, kind::LINE, kind::MAILBOX_READ] {
-        list.extend([HOST, LOCAL].map(|side| Access::new(kind, side, 0, 0, 0, 0)));
+        list.extend(by_both(kind, 0));
     }
-    for (fifo, putter) in (0..).zip(PUT_BY) {
-        let take = Access::new(kind::TAKE, 1 - putter as u8, fifo, 0, 0, 0);
-        list.extend([take; 33]);
-        list.extend([HOST, LOCAL].map(|side| Access::new(kind::CLAIM, side, fifo, 0, 0, 0)));
+    for fifo in 0..4 {
+        let take = Access::new(kind::TAKE, taker(fifo), fifo, 0, 0, 0);
+        list.extend([take; FIFO_DEPTH + 1]);
+        // the pair of the same number
+        list.extend(by_both(kind::CLAIM, fifo));
     }
     let dwords = |length: u32| (0..length).step_by(4);
     list.extend(dwords(SHARED_LENGTH).map(|a| Access::new(kind::SHARED_READ, LOCAL, 0, a, 0, 0)));

@@ -5,41 +5,44 @@ pub mod lessons;
 mod long;
 mod short;
 
-use crate::access::{kind, Access};
-use crate::replay::text;
-use crate::trace::{trace, RECORD};
+use crate::drive::builder::Builder;
+use crate::drive::coverage::Coverage;
+use crate::replay::{bench, text};
+use crate::rng::Rng;
+use crate::trace::{trace, RECORD_LENGTH};
 
 use super::Program;
 
-pub use long::FEWEST;
+pub use long::FEWEST_RECORDS;
 
 /// The records of all traces together are at least so many.
-const LEAST: usize = 100_000;
+const LEAST_RECORDS: usize = 100_000;
 /// What all traces and texts may take together.
-const LIMIT: usize = 10_000_000;
+const BYTES_LIMIT: usize = 10_000_000;
 
 pub fn programs() -> [Program; 2] {
-    let long = long_trace(long::STORED);
+    let long = long_trace(long::STORED_RECORDS);
     let traces = [short::traces(), damaged::traces(), lessons::traces()].concat();
     let bytes = long.len() + traces.iter().map(Vec::len).sum::<usize>();
-    assert!(bytes >= LEAST * RECORD);
+    assert!(bytes >= LEAST_RECORDS * RECORD_LENGTH);
     let programs = [on_trace("replay", long), on_traces("replay_test", traces)];
     let sizes = programs.iter().map(|p| p.stdin.len() + p.stdout.len());
-    assert!(sizes.sum::<usize>() < LIMIT);
+    assert!(sizes.sum::<usize>() < BYTES_LIMIT);
     programs
 }
 
-/// A trace of so many records, at least `FEWEST`, every kind done and refused among them.
+/// A trace of so many records, at least `FEWEST_RECORDS`, every kind done and refused among them.
 pub fn long_trace(records: usize) -> Vec<u8> {
     trace(&long::accesses(records))
 }
 
-/// "Whole case: local kind 9 with B 16,777,216; host kind 10; host kind 15."
-const WHOLE_CASE: [Access; 3] = [
-    Access::new(kind::MAILBOX_WRITE, 1, 0, 0, 16_777_216, 0),
-    Access::new(kind::MAILBOX_READ, 0, 0, 0, 0, 0),
-    Access::new(kind::STEP, 0, 0, 0, 0, 0),
-];
+/// The trace of what a script does to a fresh card. Nobody asks what it reaches.
+fn scripted(seed: u64, script: impl FnOnce(&mut Builder)) -> Vec<u8> {
+    let mut coverage = Coverage::default();
+    let mut builder = Builder::new(bench(), Rng::new(seed), &mut coverage);
+    script(&mut builder);
+    trace(&builder.accesses())
+}
 
 fn on_trace(name: &'static str, stdin: Vec<u8>) -> Program {
     let stdout = text(&stdin);
