@@ -3,6 +3,7 @@ ghost use mathlib.Core.Path.{_≡_};
 ghost use mathlib.Core.List.{[], _∷_};
 ghost use Prim.Native.Nat.{_<_};
 ghost use Rattle.model.specs.Choice.{if_then_else_};
+ghost use Rattle.model.specs.Checks.{refusal, _for_};
 ghost use Rattle.model.specs.Sides.{sideOf, other, notBy};
 ghost use Rattle.model.specs.State.{misplaced};
 ghost use Rattle.model.specs.Accesses.{nonzero};
@@ -88,4 +89,18 @@ pub fn misplaced(at: u32, count: u32, lo: u64, hi: u64) -> bool
     let from = at as u64;
     let end = from + count as u64;
     (from % 4 != 0) | (from < lo) | (hi < end)
+}
+
+// Kinds 0, 10, 11 and 13 use no field.
+pub fn no_field(q: Access) -> u8
+    ensures { λ r. ⌜ r ≡ refusal ((3 for nonzero (q .s ∷ q .a ∷ q .b ∷ q .c ∷ [])) ∷ []) ⌝ }
+{
+    when(UNUSED_FIELD, nonzero(q.s, q.a, q.b, q.c), 0)
+}
+
+// Kinds 9 and 12 use B.
+pub fn value_only(q: Access) -> u8
+    ensures { λ r. ⌜ r ≡ refusal ((3 for nonzero (q .s ∷ q .a ∷ q .c ∷ [])) ∷ []) ⌝ }
+{
+    when(UNUSED_FIELD, nonzero(q.s, q.a, 0, q.c), 0)
 }

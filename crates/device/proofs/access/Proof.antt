@@ -86,19 +86,19 @@ claim-requires c κs = search needs
 release-requires : tie.Need-release-requires
 release-requires c κs = search needs
 
-mailbox-write-requires : tie.Need-mailbox-write-requires
-mailbox-write-requires c κs = search needs
+write-requires : tie.Need-write-requires
+write-requires c κs = search needs
 
-mailbox-read-requires : tie.Need-mailbox-read-requires
-mailbox-read-requires c κs = search needs
+read-requires : tie.Need-read-requires
+read-requires c κs = search needs
 
-interrupt-read-requires : tie.Need-interrupt-read-requires
-interrupt-read-requires c κs = let e = c .before in
+read-requires-2 : tie.Need-read-requires-2
+read-requires-2 c κs = let e = c .before in
     let a = e .before .before .before .before .before .before .args in
     fit-sound (a .card) (now (a .shared)) (now (a .window)) (fine (e .before .before))
 
-interrupt-write-requires : tie.Need-interrupt-write-requires
-interrupt-write-requires c κs = search needs
+write-requires-2 : tie.Need-write-requires-2
+write-requires-2 c κs = search needs
 
 line-requires : tie.Need-line-requires
 line-requires c κs = search needs
@@ -167,16 +167,16 @@ returns-11 : tie.Need-returns-11
 returns-11 c = plain (c .before .before) 8 refl (c .before .match .keys9) _ (c .release .ensures)
 
 returns-12 : tie.Need-returns-12
-returns-12 c = plain (c .before .before) 9 refl (c .before .match .keys10) _ (c .mailbox-write .ensures)
+returns-12 c = plain (c .before .before) 9 refl (c .before .match .keys10) _ (c .write .ensures)
 
 returns-13 : tie.Need-returns-13
-returns-13 c = plain (c .before .before) 10 refl (c .before .match .keys11) _ (c .mailbox-read .ensures)
+returns-13 c = plain (c .before .before) 10 refl (c .before .match .keys11) _ (c .read .ensures)
 
 returns-14 : tie.Need-returns-14
-returns-14 c = plain (c .before .before) 11 refl (c .before .match .keys12) _ (c .interrupt-read .ensures)
+returns-14 c = plain (c .before .before) 11 refl (c .before .match .keys12) _ (c .read2 .ensures)
 
 returns-15 : tie.Need-returns-15
-returns-15 c = plain (c .before .before) 12 refl (c .before .match .keys13) _ (c .interrupt-write .ensures)
+returns-15 c = plain (c .before .before) 12 refl (c .before .match .keys13) _ (c .write2 .ensures)
 
 returns-16 : tie.Need-returns-16
 returns-16 c = plain (c .before .before) 13 refl (c .before .match .keys14) _ (c .line .ensures)
@@ -221,10 +221,10 @@ access-spec =
     put-requires
     claim-requires
     release-requires
-    mailbox-write-requires
-    mailbox-read-requires
-    interrupt-read-requires
-    interrupt-write-requires
+    write-requires
+    read-requires
+    read-requires-2
+    write-requires-2
     line-requires
     start-requires
     step-requires

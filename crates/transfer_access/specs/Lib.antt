@@ -1,0 +1,3 @@
+pub mod StartLaws
+pub mod StepFits
+pub mod StepLaws
