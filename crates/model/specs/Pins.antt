@@ -4,7 +4,7 @@ use mathlib.Core.List.{List, [], _∷_}
 use Prim.Native.Nat.{ℕ, zero, suc, _+_, _-_, _*_, _/_, _%_, _^_}
 use lib.ListN.{getD}
 use Rattle.model.specs.Choice.{if_then_else_}
-use Rattle.model.specs.Lanes.{enabled, dwordOf, byteOf}
+use Rattle.model.specs.Lanes.{dwordOf, byteOf, laneValues}
 use Rattle.model.specs.Events.{bit}
 use Rattle.model.specs.State.{above}
 
@@ -33,11 +33,6 @@ lanesOf mode pins = getD (lanes8 pins ∷ lanes16 pins ∷ getD motorolaRows pin
 -- its own in mode 3.
 abbrev pub dataByte : (mode lane : ℕ) → ℕ
 dataByte mode lane = getD (0 ∷ lane % 2 ∷ lane % 2 ∷ lane ∷ []) mode 0
-
--- What `n` lanes hold from lane `k` on, where lane j carries `carried j`: 0 where the lane is unused.
-abbrev pub laneValues : (n : ℕ) → (carried : ℕ → ℕ) → (k lanes : ℕ) → List ℕ
-laneValues zero carried k lanes = []
-laneValues (suc n) carried k lanes = (if enabled lanes then carried k else 0) ∷ laneValues n carried (k + 1) (lanes / 2)
 
 pub record Decoded : Type 0 where
   pub number : ℕ
