@@ -24,6 +24,7 @@ pub mod Refusals
 pub mod InterruptLaws
 pub mod SourceLaws
 pub mod Soundness
+pub mod Entries
 pub mod FifoRuns
 pub mod PinLaws
 pub mod Bench
