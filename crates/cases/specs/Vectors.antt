@@ -5,7 +5,7 @@ use mathlib.Core.List.{List, [], _∷_, _++_, map}
 use Prim.Native.Nat.{ℕ}
 use lib.ListN.{replicate}
 use Rattle.model.specs.State.{Settings, Flags, Mailboxes, Interrupts, Transfer, Dma, State, World, NewCard, sound, freshCard}
-use Rattle.model.specs.Runs.{Entry, Ran, run}
+use Rattle.model.specs.Runs.{Entry, run}
 use Rattle.model.specs.Accesses.{Access, Answer, access}
 use Rattle.model.specs.Source.{Memory, Part, source}
 use Rattle.model.specs.Pins.{Decoded, decode}

@@ -1,13 +1,12 @@
 -- Rule 3 at work: lists in which steps really move, each with its premise shown and the moved list written out, computed on the bench.
 use mathlib.Core.Path.{_≡_, refl, subst}
-use mathlib.Core.Bool.{Bool, true}
+use mathlib.Core.Bool.{true}
 use mathlib.Core.List.{List, [], _∷_, _++_, map}
-use Prim.Native.Nat.{ℕ}
 use lib.ListN.{replicate}
 use Rattle.model.specs.Lanes.{readDword, writeDword}
-use Rattle.model.specs.State.{World, sound, freshCard}
-use Rattle.model.specs.Runs.{Ran, run}
-use Rattle.model.specs.Accesses.{Access, Answer, access}
+use Rattle.model.specs.State.{sound, freshCard}
+use Rattle.model.specs.Runs.{run}
+use Rattle.model.specs.Accesses.{Access, access}
 use Rattle.model.specs.Bench.{q, replaySettings, bench}
 use Rattle.reordering.specs.Roles.{roles, moved}
 use Rattle.reordering.specs.Reordering.{quiet, actionOf}

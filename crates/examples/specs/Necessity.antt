@@ -9,7 +9,7 @@ use lib.Dec.{eqb}
 use borrow.Author.Tests.{eq-eqb}
 use Rattle.model.specs.Choice.{if_then_else_, every}
 use Rattle.model.specs.Lanes.{readDword, writeDword}
-use Rattle.model.specs.State.{Transfer, World, sound, freshCard}
+use Rattle.model.specs.State.{Transfer, sound, freshCard}
 use Rattle.model.specs.Runs.{Entry, run}
 use Rattle.model.specs.Accesses.{Access, Answer, access}
 use Rattle.model.specs.TestLaws.{no-both}

@@ -7,8 +7,8 @@ use native.Mathlib.Omega.{arith}
 use lib.ListN.{getD, set, length, replicate}
 use lib.Seq.{getD-set-other, set-getD}
 use Rattle.model.specs.Choice.{if_then_else_}
-use Rattle.model.specs.Lanes.{bytesOf, enabled, loads, stores, writeDword}
-use Rattle.model.specs.LaneLaws.{covers-from, loads-same}
+use Rattle.model.specs.Lanes.{bytesOf, enabled, laneValues, byteAt, stores, writeDword}
+use Rattle.model.specs.LaneLaws.{covers-from, values-same}
 
 -- lane by lane, the new byte where the lane is enabled, else the old one
 abbrev pub merge : (lanes : ℕ) → (old new : List ℕ) → List ℕ
@@ -47,10 +47,10 @@ merge-four lanes old new ho hn a b c d pa pb pc pd =
     let e : a ∷ b ∷ c ∷ d ∷ [] ≡ merge lanes (elements 4 0 old) (elements 4 0 new) = rw (pa, pb, pc, pd) in
     e ∙ ap (λ (l : List ℕ). merge lanes l (elements 4 0 new)) (listed 4 old ho) ∙ ap (merge lanes old) (listed 4 new hn)
 
--- a read merges all bytes into zeros
-pub merge-loads : (n : ℕ) (m : List ℕ) (at lanes : ℕ) → merge lanes (replicate n 0) (loads n m at 0) ≡ loads n m at lanes
-merge-loads zero m at lanes = refl
-merge-loads (suc n) m at lanes = ap ((if enabled lanes then getD m at 0 else 0) ∷_) (merge-loads n m (at + 1) (lanes / 2))
+-- what the lanes carry, merged into zeros, is what they hold
+pub merge-zeros : (n : ℕ) (carried : ℕ → ℕ) (k lanes : ℕ) → merge lanes (replicate n 0) (laneValues n carried k 0) ≡ laneValues n carried k lanes
+merge-zeros zero carried k lanes = refl
+merge-zeros (suc n) carried k lanes = ap ((if enabled lanes then carried k else 0) ∷_) (merge-zeros n carried (k + 1) (lanes / 2))
 
 -- all bytes stored, one after another
 abbrev pub puts : (bytes memory : List ℕ) → (at : ℕ) → List ℕ
@@ -58,12 +58,12 @@ puts [] m at = m
 puts (b ∷ bs) m at = puts bs (set m at b) (at + 1)
 
 -- a write stores the bytes merged into those that were there
-puts-merge : (bs m : List ℕ) (at lanes : ℕ) → puts (merge lanes (loads (length bs) m at 0) bs) m at ≡ stores bs m at lanes
+puts-merge : (bs m : List ℕ) (at lanes : ℕ) → puts (merge lanes (laneValues (length bs) (byteAt m) at 0) bs) m at ≡ stores bs m at lanes
 puts-merge [] m at lanes = refl
 puts-merge (b ∷ bs) m at lanes =
     let y : ℕ = (if enabled lanes then b else getD m at 0) in
-    let far : loads (length bs) m (at + 1) 0 ≡ loads (length bs) (set m at y) (at + 1) 0 =
-    loads-same (length bs) m (set m at y) (at + 1) 0
+    let far : laneValues (length bs) (byteAt m) (at + 1) 0 ≡ laneValues (length bs) (byteAt (set m at y)) (at + 1) 0 =
+    values-same (length bs) (byteAt m) (byteAt (set m at y)) (at + 1) 0
     (λ i c. sym (getD-set-other m at i y 0 (λ q. omega (arith, covers-from (length bs) (at + 1) 0 i c)))) in
     ap (λ (l : List ℕ). puts (merge (lanes / 2) l bs) (set m at y) (at + 1)) far
     ∙ puts-merge bs (set m at y) (at + 1) (lanes / 2)
@@ -73,7 +73,7 @@ puts-merge (b ∷ bs) m at lanes =
     one true = refl
     one false = set-getD m at 0
 
-pub write-four : (m r : List ℕ) (at lanes v : ℕ) → r ≡ merge lanes (loads 4 m at 0) (bytesOf 4 v)
+pub write-four : (m r : List ℕ) (at lanes v : ℕ) → r ≡ merge lanes (laneValues 4 (byteAt m) at 0) (bytesOf 4 v)
     → set (set (set (set m at (getD r 0 0)) (at + 1) (getD r 1 0)) (at + 1 + 1) (getD r 2 0)) (at + 1 + 1 + 1) (getD r 3 0) ≡ writeDword m at lanes v
 unfolding writeDword
 write-four m r at lanes v h = rw h (puts-merge (bytesOf 4 v) m at lanes)

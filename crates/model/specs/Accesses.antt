@@ -15,7 +15,7 @@ use Rattle.model.specs.FifosAndFlags.{putter, taker, takenFrom, putInto,
 use Rattle.model.specs.Mailboxes.{mailWritten, mailFor, labelFor}
 use Rattle.model.specs.Interrupts.{registerValue, registerWritten, active}
 use Rattle.model.specs.Steps.{outsideWindow, stepped}
-use Rattle.model.specs.Runs.{Outcome, Entry}
+use Rattle.model.specs.Runs.{Outcome}
 
 -- "Kind, side and selector S are bytes; A, B, C, V and X are 32-bit numbers."
 pub record Access : Type 0 where

@@ -1,13 +1,13 @@
 -- Laws of event sets, each said once over the position: which bits a set has after each operation, and that sets with the same bits are equal.
 use mathlib.Core.Path.{_≡_, refl, ap, ap₂, sym, _∙_}
 use mathlib.Core.Bool.{Bool, true, false, not, _&&_, _||_}
-use Prim.Native.Nat.{ℕ, zero, suc, _+_, _-_, _*_, _/_, _%_, _^_, _≤_, _<_, min, max}
+use Prim.Native.Nat.{ℕ, zero, suc, _+_, _-_, _*_, _/_, _%_, _^_, _≤_, _<_, min}
 use native.Mathlib.Omega.{arith}
 use native.Mathlib.Nat.{div-one, div-div-eq-div-mul, pow-succ', zero-div}
 use lib.Bits.{bitOr, bitAnd, and-step, and-le-l, and-shr, or-shr, and-mod, or-mod}
 use lib.Dec.{eqb, eqb·zero-suc, eqb·suc-zero, eqb·suc-suc}
 use borrow.Author.Tests.{eqb-true, eq-eqb}
-use Rattle.model.specs.TestLaws.{no-both, and-left, and-right, and-true}
+use Rattle.model.specs.TestLaws.{no-both, and-left, and-right}
 use Rattle.model.specs.Events.{Event, position, bit, mask, insert, common, without, within}
 
 -- THE BITS OF A NUMBER

@@ -18,7 +18,8 @@ use Rattle.model.specs.State.{Settings, Dma, idle, running, State, World
 use Rattle.model.specs.Changes.{Change, mailIs, fifo, pair, flag, applyAll, Effect, worldAfter}
 use Rattle.model.specs.FifosAndFlags.{takenFrom, putInto}
 use Rattle.model.specs.Steps.{inAbortRange, outsideWindow, pciOf, stepped}
-use Rattle.model.specs.Runs.{Entry, entryAt, run}
+use Rattle.model.specs.Runs.{Entry, run}
+use Rattle.model.specs.Entries.{entryAt}
 use Rattle.model.specs.Accesses.{Access, Answer, Kind, reset, sharedRead, sharedWrite, windowRead, windowWrite, take, put, claim, release, mailboxWrite, mailboxRead, interruptRead, interruptWrite, line, start, step, externalPin, unknown, kindOf, rowOf, checks, settled, access}
 use Rattle.model.specs.TestLaws.{and-left, and-right, or-left, if-case}
 use Rattle.model.specs.CheckLaws.{Pass}

@@ -5,12 +5,13 @@ use mathlib.Core.Bool.{Bool, true, false}
 use mathlib.Core.List.{List, [], _∷_}
 use Prim.Native.Nat.{ℕ, zero, suc, _+_, _-_, _*_, _/_, _%_, _^_, _<_, _≤_}
 use native.Mathlib.Omega.{arith}
+use native.Mathlib.Numerals.{add-one}
 use native.Mathlib.Nat.{pow-suc, pow-succ', div-one, div-div-eq-div-mul}
 use lib.ListN.{getD, set, length, length-set}
 use lib.Seq.{getD-set-other, getD-set-same, set-comm}
 use Rattle.model.specs.Choice.{if_then_else_, every}
 use Rattle.model.specs.TestLaws.{and-left, and-right, no-both}
-use Rattle.model.specs.Lanes.{dwordOf, bytesOf, enabled, loads, stores, readDword, writeDword, laneBytes}
+use Rattle.model.specs.Lanes.{dwordOf, bytesOf, enabled, laneValues, byteAt, stores, readDword, writeDword, laneBytes}
 
 -- BYTES OF ENABLED LANES
 
@@ -84,11 +85,6 @@ dword-bytes (suc n) v h =
     let q : v / 256 < 256 ^ n = omega arith in
     rw (dword-bytes n (v / 256) q) (omega arith)
 
--- bytes with the disabled lanes 0
-abbrev pub masked : (lanes : ℕ) → List ℕ → List ℕ
-masked lanes [] = []
-masked lanes (b ∷ bs) = (if enabled lanes then b else 0) ∷ masked (lanes / 2) bs
-
 -- WHAT A WRITE CHANGES AND A READ SEES
 
 pub length-stores : (bs m : List ℕ) (at lanes : ℕ) → length (stores bs m at lanes) ≡ length m
@@ -109,17 +105,17 @@ stores-miss (b ∷ bs) m at lanes i h =
     one true g = getD-set-other m at i b 0 (g refl)
     one false g = refl
 
--- a read depends only on bytes of enabled lanes
-pub loads-same : (n : ℕ) (m m′ : List ℕ) (at lanes : ℕ) → ((i : ℕ) → Covers n at lanes i → getD m i 0 ≡ getD m′ i 0) → loads n m at lanes ≡ loads n m′ at lanes
-loads-same zero m m′ at lanes h = refl
-loads-same (suc n) m m′ at lanes h =
-    let head : (if enabled lanes then getD m at 0 else 0) ≡ (if enabled lanes then getD m′ at 0 else 0) = one (enabled lanes) (λ e. h at (inl (e, refl))) in
-    let tail : loads n m (at + 1) (lanes / 2) ≡ loads n m′ (at + 1) (lanes / 2) = loads-same n m m′ (at + 1) (lanes / 2) (λ i c. h i (inr c)) in
+-- lanes that carry the same where they are enabled hold the same, so a read depends only on bytes of enabled lanes
+pub values-same : (n : ℕ) (f g : ℕ → ℕ) (k lanes : ℕ) → ((i : ℕ) → Covers n k lanes i → f i ≡ g i) → laneValues n f k lanes ≡ laneValues n g k lanes
+values-same zero f g k lanes h = refl
+values-same (suc n) f g k lanes h =
+    let head : (if enabled lanes then f k else 0) ≡ (if enabled lanes then g k else 0) = one (enabled lanes) (λ e. h k (inl (e, refl))) in
+    let tail : laneValues n f (k + 1) (lanes / 2) ≡ laneValues n g (k + 1) (lanes / 2) = values-same n f g (k + 1) (lanes / 2) (λ i c. h i (inr c)) in
     cc
   where
-    one : (t : Bool) → (t ≡ true → getD m at 0 ≡ getD m′ at 0) → (if t then getD m at 0 else 0) ≡ (if t then getD m′ at 0 else 0)
-    one true g = g refl
-    one false g = refl
+    one : (t : Bool) → (t ≡ true → f k ≡ g k) → (if t then f k else 0) ≡ (if t then g k else 0)
+    one true e = e refl
+    one false e = refl
 
 -- one byte stored before a write that does not cover it may as well be stored after it
 set-stores : (bs m : List ℕ) (at lanes i x : ℕ) → (Covers (length bs) at lanes i → ⊥) → stores bs (set m i x) at lanes ≡ set (stores bs m at lanes) i x
@@ -144,15 +140,23 @@ stores-comm (b ∷ bs) cs m a l a′ l′ h =
     one true g = sym (set-stores cs m a′ l′ a b (g refl))
     one false g = refl
 
+-- places from the second byte on
+later : (n b : ℕ) (bs : List ℕ) (k lanes : ℕ) → laneValues n (byteAt (b ∷ bs)) (k + 1) lanes ≡ laneValues n (byteAt bs) k lanes
+later zero b bs k lanes = refl
+later (suc n) b bs k lanes = rw (add-one k) (ap ((if enabled lanes then byteAt bs k else 0) ∷_) (later n b bs (suc k) (lanes / 2)))
+
 -- what a write stored, a read of the same lanes gives back
-pub loads-stores : (bs m : List ℕ) (at lanes : ℕ) → at + length bs ≤ length m → loads (length bs) (stores bs m at lanes) at lanes ≡ masked lanes bs
-loads-stores [] m at lanes h = refl
-loads-stores (b ∷ bs) m at lanes h =
-    let head : getD (stores bs (if enabled lanes then set m at b else m) (at + 1) (lanes / 2)) at 0 ≡ getD (if enabled lanes then set m at b else m) at 0 =
-    stores-miss bs (if enabled lanes then set m at b else m) (at + 1) (lanes / 2) at (λ c. omega (arith, covers-from (length bs) (at + 1) (lanes / 2) at c)) in
-    let tail : loads (length bs) (stores bs (if enabled lanes then set m at b else m) (at + 1) (lanes / 2)) (at + 1) (lanes / 2) ≡ masked (lanes / 2) bs =
-    loads-stores bs (if enabled lanes then set m at b else m) (at + 1) (lanes / 2) (room (enabled lanes)) in
-    rw tail (ap (_∷ masked (lanes / 2) bs) (one (enabled lanes) _ head))
+pub values-back : (bs m : List ℕ) (at lanes : ℕ) → at + length bs ≤ length m →
+    laneValues (length bs) (byteAt (stores bs m at lanes)) at lanes ≡ laneValues (length bs) (byteAt bs) 0 lanes
+values-back [] m at lanes h = refl
+values-back (b ∷ bs) m at lanes h =
+    let first : List ℕ = (if enabled lanes then set m at b else m) in
+    let all = stores bs first (at + 1) (lanes / 2) in
+    let head : byteAt all at ≡ byteAt first at =
+    stores-miss bs first (at + 1) (lanes / 2) at (λ c. omega (arith, covers-from (length bs) (at + 1) (lanes / 2) at c)) in
+    let tail : laneValues (length bs) (byteAt all) (at + 1) (lanes / 2) ≡ laneValues (length bs) (byteAt (b ∷ bs)) 1 (lanes / 2) =
+    values-back bs first (at + 1) (lanes / 2) (room (enabled lanes)) ∙ sym (later (length bs) b bs 0 (lanes / 2)) in
+    rw tail (ap (_∷ laneValues (length bs) (byteAt (b ∷ bs)) 1 (lanes / 2)) (one (enabled lanes) _ head))
   where
     room : (t : Bool) → at + 1 + length bs ≤ length (if t then set m at b else m)
     room true = rw (length-set m at b) (omega arith)
@@ -177,7 +181,7 @@ write-misses m a l v i h = stores-miss (bytesOf 4 v) m a l i h
 
 pub read-same : (m m′ : List ℕ) (a l : ℕ) → ((i : ℕ) → Covers 4 a l i → getD m i 0 ≡ getD m′ i 0) → readDword m a l ≡ readDword m′ a l
 unfolding readDword
-read-same m m′ a l h = ap dwordOf (loads-same 4 m m′ a l h)
+read-same m m′ a l h = ap dwordOf (values-same 4 (byteAt m) (byteAt m′) a l h)
 
 pub read-write : (m : List ℕ) (a l v a′ l′ : ℕ) → Apart a l a′ l′ → readDword (writeDword m a l v) a′ l′ ≡ readDword m a′ l′
 read-write m a l v a′ l′ h = read-same (writeDword m a l v) m a′ l′ (λ i c. write-misses m a l v i (λ d. h i d c))
@@ -186,9 +190,10 @@ pub write-write : (m : List ℕ) (a l v a′ l′ v′ : ℕ) → Apart a l a′
 unfolding writeDword
 write-write m a l v a′ l′ v′ h = stores-comm (bytesOf 4 v) (bytesOf 4 v′) m a l a′ l′ h
 
-pub read-back : (m : List ℕ) (a l v : ℕ) → a + 4 ≤ length m → readDword (writeDword m a l v) a l ≡ dwordOf (masked l (bytesOf 4 v))
+-- the lanes read back are those of the dword written
+pub read-back : (m : List ℕ) (a l v : ℕ) → a + 4 ≤ length m → readDword (writeDword m a l v) a l ≡ readDword (bytesOf 4 v) 0 l
 unfolding readDword writeDword
-read-back m a l v h = ap dwordOf (loads-stores (bytesOf 4 v) m a l h)
+read-back m a l v h = ap dwordOf (values-back (bytesOf 4 v) m a l h)
 
 -- dwords that do not overlap are apart, whatever their lanes
 pub apart-far : (a l a′ l′ : ℕ) → (a + 4 ≤ a′) ⊎ (a′ + 4 ≤ a) → Apart a l a′ l′

@@ -1,18 +1,18 @@
 -- A sound record stays sound, the settings stay, and both memories keep their lengths, whatever the access; a fresh card is sound.
 -- Each change keeps a record sound under a condition of its own, and each kind's changes meet theirs.
 use mathlib.Core.Path.{_≡_, refl, ap, sym, _∙_}
-use mathlib.Core.Bool.{Bool, true, false, not, _&&_, _||_, and-false}
+use mathlib.Core.Bool.{Bool, true, false, not, _&&_, and-false}
 use mathlib.Core.List.{List, [], _∷_, _++_}
-use Prim.Native.Nat.{ℕ, zero, suc, _+_, _-_, _*_, _/_, _%_, _≤_, _<_}
+use Prim.Native.Nat.{ℕ, zero, suc, _/_, _%_, _≤_, _<_}
 use native.Mathlib.Omega.{arith}
-use lib.ListN.{length, getD, set, drop, length-append, length-set}
-use lib.Dec.{eqb, leb, ltb, lit≤, lit<}
+use lib.ListN.{length, set, drop, length-append, length-set}
+use lib.Dec.{eqb, ltb, lit≤, lit<}
 use borrow.Author.Tests.{eqb-true, eqb-false, leb-true, ltb-true, le-leb, lt-ltb, eq-eqb, not-false}
 use Rattle.model.specs.Choice.{if_then_else_, every}
 use Rattle.model.specs.Checks.{refusal}
 use Rattle.model.specs.Sides.{Side, host, local, sideOf, other}
-use Rattle.model.specs.Events.{Event, mailbox, mask, within, bit, common, storedMask, enableMask}
-use Rattle.model.specs.State.{Settings, Flags, Register, Transfer, Dma, idle, running, State, World, multipleOf4, above, sharedLength, directionCheck, transferChecks, settingsPass, fifoSound, flagsSound, registerSound, dmaSound, soundParts, sound, fresh, NewCard, freshCard, freshWorld}
+use Rattle.model.specs.Events.{mailbox, mask, within, bit, storedMask, enableMask}
+use Rattle.model.specs.State.{Settings, Flags, Register, Transfer, Dma, idle, running, State, World, multipleOf4, above, sharedLength, directionCheck, transferChecks, settingsPass, fifoSound, flagsSound, registerSound, dmaSound, soundParts, sound, NewCard, freshCard}
 use Rattle.model.specs.Changes.{Change, allFresh, pushed, popped, flagIs, mailIs, raised, cleared, enablesAre, dmaIs, fifo, pair, register, withFlag, withRegister, withInterrupts, raisedIn, clearedIn, enablesIn, apply, applyAll, raisedInBoth, Store, nothing, toShared, toWindow, sharedAfter, windowAfter, Effect}
 use Rattle.model.specs.FifosAndFlags.{takenFrom, overflow, putInto, claimed}
 use Rattle.model.specs.Mailboxes.{mailWritten}

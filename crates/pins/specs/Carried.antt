@@ -1,23 +1,18 @@
 -- What the lanes carry, as a list of bytes: merged into zeros under the lane mask it is the dword of the pins.
 use mathlib.Core.Path.{_≡_, refl}
-use mathlib.Core.List.{List, [], _∷_}
-use Prim.Native.Nat.{ℕ, zero, suc, _+_, _/_, _≤_, _<_}
+use mathlib.Core.List.{List}
+use Prim.Native.Nat.{ℕ, zero, suc, _/_, _≤_, _<_}
 use native.Mathlib.Omega.{arith}
 use native.Mathlib.Nat.{div-one, div-div-eq-div-mul, pow-succ'}
 use lib.ListN.{getD, replicate}
-use Rattle.model.specs.Lanes.{dwordOf, bytesOf, byteOf}
+use Rattle.model.specs.Lanes.{dwordOf, bytesOf, byteOf, laneValues}
 use Rattle.model.specs.Pins.{lanesOf, dataByte, decode}
 use Rattle.model.specs.PinLaws.{decode-is}
 use Rattle.lanes.specs.Merge.{merge}
 
--- what `n` lanes carry, from lane `k` on
-abbrev pub carriedBy : (n : ℕ) → (carried : ℕ → ℕ) → (k : ℕ) → List ℕ
-carriedBy zero carried k = []
-carriedBy (suc n) carried k = carried k ∷ carriedBy n carried (k + 1)
-
--- what the four lanes carry of the data DQ[31:0] in a mode
+-- what the four lanes carry of the data DQ[31:0] in a mode: what they hold where all are enabled
 abbrev pub carriedIn : (mode dq : ℕ) → List ℕ
-carriedIn mode dq = carriedBy 4 (λ lane. byteOf dq (dataByte mode lane)) 0
+carriedIn mode dq = laneValues 4 (λ lane. byteOf dq (dataByte mode lane)) 0 0
 
 -- byte `k` of a number is the k-th of its bytes
 pub byte-at : (n number k : ℕ) → k < n → getD (bytesOf n number) k 0 ≡ byteOf number k

@@ -8,7 +8,8 @@ use Prim.Native.Nat.{ℕ, zero, suc, _-_, _/_, _<_}
 use native.Mathlib.Nat.{sub-zero}
 use native.Mathlib.Omega.{arith}
 use Rattle.model.specs.State.{Settings, Transfer, Dma, running, World, dmaSound, sound, freshWorld}
-use Rattle.model.specs.Runs.{Entry, entryAt, run}
+use Rattle.model.specs.Runs.{Entry, run}
+use Rattle.model.specs.Entries.{entryAt}
 use Rattle.model.specs.Accesses.{Access, Answer, access}
 use Rattle.model.specs.Soundness.{sound-parts, stays-sound, fresh-sound, sound-transfer}
 use Rattle.reordering.specs.Roles.{TransferAction, resets, starts, steps, none, openAfter, countAfter, Role, startOf, stepOf, neither, roleOf, rolesFrom, roles, stepsOf}

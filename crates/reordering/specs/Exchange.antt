@@ -14,7 +14,8 @@ use Rattle.model.specs.Lanes.{laneBytes}
 use Rattle.model.specs.State.{Settings, Transfer, Dma, idle, running, World, above, dmaSound, settingsPass, NewCard, freshCard, freshWorld}
 use Rattle.model.specs.Changes.{Effect, worldAfter}
 use Rattle.model.specs.Steps.{pciOf, stepped}
-use Rattle.model.specs.Runs.{Entry, entryAt, run}
+use Rattle.model.specs.Runs.{Entry, run}
+use Rattle.model.specs.Entries.{entryAt}
 use Rattle.model.specs.Accesses.{Access, Answer, Kind, reset, sharedRead, sharedWrite, windowRead, windowWrite, take, put, claim, release, mailboxWrite, mailboxRead, interruptRead, interruptWrite, line, start, step, externalPin, unknown, kindOf, nonzero, isIdle, rowOf, fit, checks, settled, access}
 use Rattle.model.specs.TestLaws.{All, no-both, and-left, and-right, or-left, if-case}
 use Rattle.model.specs.CheckLaws.{Pass, pass-refusal}

@@ -14,7 +14,7 @@ use Rattle.model.specs.Events.{dmaComplete, targetAbort, masterAbort}
 use Rattle.model.specs.State.{Settings, Transfer, Dma, idle, running, World, multipleOf4, dmaSound}
 use Rattle.model.specs.Changes.{Store, nothing, toShared, toWindow, Effect, done, _storing_, dmaIs, applyAll, raisedInBoth}
 use Rattle.model.specs.Steps.{inAbortRange, outsideWindow, pciOf, copy, copyOf, stepped}
-use Rattle.model.specs.Runs.{entryAt}
+use Rattle.model.specs.Entries.{entryAt}
 use Rattle.model.specs.Accesses.{Access, Answer, Kind, reset, sharedRead, sharedWrite, windowRead, windowWrite, take, put, claim, release, mailboxWrite, mailboxRead, interruptRead, interruptWrite, line, start, step, externalPin, unknown, kindOf, isIdle, rowOf, checks, settled, access}
 use Rattle.model.specs.TestLaws.{All, no-both, or-left, or-right, and-true, if-case}
 use Rattle.model.specs.CheckLaws.{Pass}

@@ -35,7 +35,8 @@ returns : tie.Need-returns
 returns c =
     let b = c .before .before .before .before .args .t1 in
     let len : length b ≡ 4 = search needs in
-    cc (ap dwordOf (listed 4 b len))
+    rw (c .with-low-byte4 .ensures .0, c .before .with-low-byte3 .ensures .0, c .before .before .with-low-byte2 .ensures .0, c .before .before .before .with-low-byte .ensures .0)
+    (ap dwordOf (listed 4 b len))
 
 pub dword-of-spec : {M : Type 1} → statement M
 dword-of-spec =

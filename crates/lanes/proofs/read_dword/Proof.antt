@@ -1,8 +1,8 @@
--- `read_dword` meets its contract: the four bytes merged into zeros are those that the lanes load.
+-- `read_dword` meets its contract: the four bytes merged into zeros are what the lanes hold.
 use denote.Ref.{now}
 use mathlib.Core.Path.{ap, _∙_}
-use Rattle.model.specs.Lanes.{dwordOf, readDword}
-use Rattle.lanes.specs.Merge.{merge-loads}
+use Rattle.model.specs.Lanes.{dwordOf, byteAt, readDword}
+use Rattle.lanes.specs.Merge.{merge-zeros}
 use borrow.Author.Needs.{needs}
 use Rattle.lanes.proofs.read_dword.Statement.{statement}
 use Rattle.lanes.proofs.read_dword.Tie as tie
@@ -38,7 +38,7 @@ returns : tie.Need-returns
 unfolding readDword
 returns c =
     let a = c .before .before .before .before .before .before .before .args in
-    c .dword-of .ensures ∙ ap dwordOf (c .before .merged .ensures ∙ merge-loads 4 (now (a .mem)) (a .at) (a .lanes))
+    c .dword-of .ensures ∙ ap dwordOf (c .before .merged .ensures ∙ merge-zeros 4 (byteAt (now (a .mem))) (a .at) (a .lanes))
 
 pub read-dword-spec : {M : Type 1} → statement M
 read-dword-spec =

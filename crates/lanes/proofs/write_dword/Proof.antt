@@ -3,7 +3,7 @@ use denote.Ref.{now}
 use mathlib.Core.Path.{ap, _∙_}
 use native.Mathlib.Omega.{arith}
 use lib.ListN.{length-set}
-use Rattle.model.specs.Lanes.{loads}
+use Rattle.model.specs.Lanes.{laneValues, byteAt}
 use Rattle.lanes.specs.Merge.{merge, write-four}
 use borrow.Author.Needs.{needs}
 use Rattle.lanes.proofs.write_dword.Statement.{statement}
@@ -67,7 +67,7 @@ returns : tie.Need-returns
 returns c =
     let a = c .before .before .before .before .before .before .before .args in
     write-four (now (a .mem)) (c .merged .result) (a .at) (a .lanes) (a .dword)
-    (c .merged .ensures ∙ ap (merge (a .lanes) (loads 4 (now (a .mem)) (a .at) 0)) (c .before .bytes-of .ensures))
+    (c .merged .ensures ∙ ap (merge (a .lanes) (laneValues 4 (byteAt (now (a .mem))) (a .at) 0)) (c .before .bytes-of .ensures))
 
 pub write-dword-spec : {M : Type 1} → statement M
 write-dword-spec =

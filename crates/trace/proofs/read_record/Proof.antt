@@ -1,5 +1,5 @@
-use denote.Ref.{now}
 -- `read_record` meets its contract: by whether the refusal is 0; a record that is not refused is whole.
+use denote.Ref.{now}
 use mathlib.Core.Path.{sym, _∙_}
 use borrow.Author.Tests.{ne-eqb}
 use Rattle.model.specs.Trace.{readRecord}

@@ -1,4 +1,5 @@
 -- `events::Register::value` meets its contract: 16 bits of status below 16 bits of enables fit 32.
+use Prim.Native.Nat.{_<_}
 use native.Mathlib.Omega.{arith}
 use lib.Bits.{or-lt}
 use borrow.Author.Needs.{needs}
@@ -13,9 +14,9 @@ mul-result c = search needs
 
 add-result : tie.Need-add-result
 add-result c =
-    let p = c .before .before .before .before .pre in
-    let a = c .before .before .before .before .args in
-    record { fits = omega (arith, p .0, c .before .before .insert .ensures, or-lt 16 (a .self .status .0) (a .live .0) (p .1) (p .2)) }
+    let set = c .before .before .insert in
+    let fits : set .result .0 < 65536 = rw (set .ensures) (search (needs, or-lt 16)) in
+    record { fits = omega arith }
 
 returns : tie.Need-returns
 returns c = search needs
