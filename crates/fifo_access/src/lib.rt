@@ -78,6 +78,7 @@ fn take_entry(card: Card, i: usize) -> Outcome
     }
     card.done(taken.entry, 0)
 }
+
 // The event of a put that a side loses.
 fn lost_event(side: u8) -> EventSet
     ensures { λ r. ⌜ r .0 ≡ mask (overflow (sideOf side)) ⌝ }
@@ -105,6 +106,7 @@ fn put_entry(card: Card, side: u8, i: usize, entry: u32) -> Outcome
     }
     card.raise_both(lost_event(side)).done(0, 0)
 }
+
 // KINDS
 
 // 5 take

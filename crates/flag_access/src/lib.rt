@@ -37,6 +37,7 @@ fn with_flag(card: Card, side: u8, i: usize, set: bool) -> Card
     changed.flags[i] = flags;
     changed
 }
+
 // "A claim sets the caller's flag exactly when the other side's flag of that pair is clear; otherwise nothing changes."
 fn claim_flag(card: Card, side: u8, i: usize) -> Outcome
     requires { ⌜ i < 4 ⌝ }
@@ -55,6 +56,7 @@ fn release_flag(card: Card, side: u8, i: usize) -> Outcome
 {
     with_flag(card, side, i, false).done(0, 0)
 }
+
 // 7 claim
 pub fn claim(card: Card, q: Access) -> Outcome
     ensures { λ r. ⌜ ((m w : List ℕ) → Did model.claim card q m w r m w) ⌝ }

@@ -31,6 +31,7 @@ fn live(card: Card) -> EventSet
     let second = events::OUTBOUND_POST.only_if(!outbound.is_empty());
     first.insert(second)
 }
+
 // "Caller's own register."
 fn read_register(card: Card, side: u8) -> Outcome
     requires { ⌜ sound (stateOf card) ≡ true ⌝ }
@@ -50,6 +51,7 @@ fn write_register(card: Card, side: u8, value: u32) -> Outcome
     changed.interrupts = interrupts.write(side, value);
     changed.done(0, 0)
 }
+
 // "V 1 active, else 0."
 fn line_level(card: Card, side: u8) -> Outcome
     ensures { λ r. ⌜ Effected (done (if active (sideOf side) (stateOf card) then 1 else 0) 0 []) card r ⌝ }
@@ -61,6 +63,7 @@ fn line_level(card: Card, side: u8) -> Outcome
     }
     card.done(0, 0)
 }
+
 // "Raises host event 4."
 fn raise_external(card: Card) -> Outcome
     ensures { λ r. ⌜ Effected (done 0 0 (raised host external ∷ [])) card r ⌝ }

@@ -26,6 +26,7 @@ fn write_data(card: Card, side: u8, value: u32) -> Outcome
     }
     changed.done(0, 0)
 }
+
 // "V data, X bay label."
 fn read_data(card: Card, side: u8) -> Outcome
     ensures { λ r. ⌜ Effected (done (mailFor (sideOf side) (stateOf card .mailboxes)) (labelFor (sideOf side) (stateOf card .mailboxes)) []) card r ⌝ }
@@ -33,6 +34,7 @@ fn read_data(card: Card, side: u8) -> Outcome
     let mailboxes = card.mailboxes;
     card.done(mailboxes.read(side), mailboxes.label(side))
 }
+
 // 9 mailbox write
 pub fn write(card: Card, q: Access) -> Outcome
     ensures { λ r. ⌜ ((m w : List ℕ) → Did model.mailboxWrite card q m w r m w) ⌝ }

@@ -45,6 +45,7 @@ fn begin(card: Card, transfer: Transfer) -> Outcome
     card.with_dma(Dma::Running(transfer, 0))
         .done(transfer.size / 4, 0)
 }
+
 // 14 start
 pub fn start(card: Card, q: Access) -> Outcome
     ensures { λ r. ⌜ ((m w : List ℕ) → Did model.start card q m w r m w) ⌝ }

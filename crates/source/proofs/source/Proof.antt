@@ -50,7 +50,8 @@ part-result-start-2 c = search needs
 part-result-end-2 : tie.Need-part-result-end-2
 part-result-end-2 c =
     let pass = c .before .before in
-    omega (arith, known (pass .before) .windowHolds (pass .if1 .left) (c .before .if2 .taken), c .offset .ensures)
+    let k = known (pass .before) in
+    omega (arith, k .windowHolds (pass .if1 .left) (c .before .if2 .taken), k .sharedHolds (pass .if1 .left), c .offset .ensures)
 
 returns-2 : tie.Need-returns-2
 returns-2 c =
