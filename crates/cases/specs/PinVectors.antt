@@ -1,5 +1,5 @@
 -- Written by the independent program, oracle/: local pins to lanes and dword.
-use mathlib.Core.Path.{_≡_, refl}
+use mathlib.Core.Path.{refl}
 use mathlib.Core.List.{List, [], _∷_}
 use Rattle.model.specs.Pins.{decode}
 use Rattle.cases.specs.Vectors.{PinCase, pinCase, PinsAgree}

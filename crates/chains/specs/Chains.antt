@@ -3,8 +3,8 @@
 use mathlib.Core.Path.{_≡_, refl, ap, sym, _∙_}
 use mathlib.Core.List.{List, [], _∷_, map}
 use Prim.Native.Nat.{ℕ}
-use Rattle.model.specs.State.{World, freshCard, freshWorld}
-use Rattle.model.specs.Runs.{Entry, Ran, run}
+use Rattle.model.specs.State.{freshCard, freshWorld}
+use Rattle.model.specs.Runs.{Entry, run}
 use Rattle.model.specs.Accesses as model
 use Rattle.model.specs.Accesses.{access}
 use Rattle.access.specs.declared.Access.{Access}

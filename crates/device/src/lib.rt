@@ -49,8 +49,8 @@ pub fn access(card: Card, shared: &mut [u8], window: &mut [u8], q: Access) -> Ou
         11 => interrupt_access::read(card, q),
         12 => interrupt_access::write(card, q),
         13 => interrupt_access::line(card, q),
-        14 => transfer_access::start(card, q),
-        15 => transfer_access::step(card, shared, window, q),
+        14 => transfer_start::start(card, q),
+        15 => transfer_step::step(card, shared, window, q),
         16 => interrupt_access::external_pin(card, q),
         17..=255 => card.refused(access::UNKNOWN),
     }

@@ -1,8 +1,7 @@
 // Document 01, "Transfer": the one DMA transfer of a card, as its record keeps it.
 ghost use mathlib.Core.Path.{_≡_};
-ghost use mathlib.Core.List.{[], _∷_};
 ghost use Rattle.model.specs.Checks.{refusal};
-ghost use Rattle.model.specs.State.{directionCheck, transferChecks, dmaSound};
+ghost use Rattle.model.specs.State.{transferChecks, dmaSound};
 ghost use Rattle.model.specs.Accesses.{isIdle};
 ghost use Rattle.dma.specs.Bridge.{transferAs, dmaAs};
 

@@ -20,7 +20,6 @@ use Rattle.fifo.specs.Held.{held, putOn, putAs, takenOff, takenAs}
 use Rattle.fifo.specs.HeldLaws.{kept-is, lost-is, some-is, none-is}
 use Rattle.interrupts.specs.Bridge.{raisedBoth}
 use Rattle.card.specs.declared.Card.{Card}
-use Rattle.card.specs.declared.Outcome.{Outcome}
 use Rattle.card.specs.Bridge.{stateOf, Effected}
 use Rattle.card.specs.BridgeLaws.{map-set, by-effect, Gives, unchanged, fifoAt, fifo-at}
 

@@ -1,7 +1,7 @@
 -- Laws of claim and release: a pair of the array changed is a pair of the list changed, and a claim won or lost.
 use mathlib.Core.Path.{_≡_, refl, ap, sym, _∙_}
 use mathlib.Core.Bool.{Bool, true, false}
-use mathlib.Core.List.{List, [], _∷_}
+use mathlib.Core.List.{[], _∷_}
 use Prim.Native.Nat.{ℕ}
 use lib.ListN.{getD, set, List·getD-map}
 use Rattle.model.specs.Sides.{Side, other}
@@ -13,7 +13,6 @@ use Rattle.access.specs.declared.Answer.the-variants.{Done}
 use Rattle.arbitration.specs.declared.Flags.{Flags}
 use Rattle.arbitration.specs.Bridge.{flagsAs}
 use Rattle.card.specs.declared.Card.{Card}
-use Rattle.card.specs.declared.Outcome.{Outcome}
 use Rattle.card.specs.Bridge.{stateOf, Effected}
 use Rattle.card.specs.BridgeLaws.{map-set, by-effect, Gives, unchanged}
 

@@ -23,7 +23,6 @@ use Rattle.fifo.specs.Held.{held}
 use Rattle.interrupts.specs.declared.Interrupts.{Interrupts}
 use Rattle.interrupts.specs.Bridge.{interruptsAs, onSide}
 use Rattle.card.specs.declared.Card.{Card}
-use Rattle.card.specs.declared.Outcome.{Outcome}
 use Rattle.card.specs.Bridge.{stateOf, Effected}
 use Rattle.card.specs.BridgeLaws.{interrupts-is, withInterrupts, interrupts-set, fifoAt, fifo-at}
 

@@ -14,7 +14,6 @@ use Rattle.events.specs.Registers.{raisedAll}
 use Rattle.mailboxes.specs.declared.Mailboxes.{Mailboxes}
 use Rattle.mailboxes.specs.Bridge.{mailboxesAs}
 use Rattle.card.specs.declared.Card.{Card}
-use Rattle.card.specs.declared.Outcome.{Outcome}
 use Rattle.card.specs.Bridge.{stateOf, Effected}
 use Rattle.card.specs.BridgeLaws.{mailboxes-is, by-effect, Gives}
 

@@ -1,5 +1,4 @@
 // Document 01, "Mailboxes": mailbox write and read, kinds 9 and 10, each with its own check first.
-ghost use mathlib.Core.Path.{_≡_};
 ghost use mathlib.Core.List.{List, []};
 ghost use Prim.Native.Nat.{ℕ};
 ghost use Rattle.model.specs.Sides.{sideOf};

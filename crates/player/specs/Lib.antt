@@ -1,2 +1,2 @@
-pub mod Standings
+pub mod Played
 pub mod Progress

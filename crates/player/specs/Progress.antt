@@ -1,7 +1,7 @@
 -- A chunk half answered: what is left of its text and of its standing, from one record to the next.
 use mathlib.Core.Path.{_≡_, refl}
 use mathlib.Core.Bool.{false}
-use mathlib.Core.List.{List, []}
+use mathlib.Core.List.{List}
 use Prim.Native.Nat.{ℕ, _+_, _-_, _<_, _≤_}
 use native.Mathlib.Omega.{arith}
 use lib.ListN.{length, take, drop, length-drop}
@@ -17,7 +17,7 @@ use Rattle.model.specs.ReplayLaws.{replay-stopped, replay-none, replay-more}
 use Rattle.trace.specs.declared.Read.{Read}
 use Rattle.trace.specs.declared.Read.the-variants.{Refused}
 use Rattle.trace.specs.Readings.{readOf}
-use Rattle.player.specs.Standings.{Played}
+use Rattle.player.specs.Played.{Played}
 use Rattle.report.specs.Put.{Put, begun, second-left, ended}
 
 -- The replay of the bytes from `at` on, stored from `end` on, gives the buffer and the standing of the whole chunk.

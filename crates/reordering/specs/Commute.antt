@@ -6,7 +6,7 @@ use Prim.Native.Nat.{ℕ}
 use Rattle.model.specs.Lanes.{readDword}
 use Rattle.model.specs.Sides.{Side, host, local}
 use Rattle.model.specs.Events.{Event}
-use Rattle.model.specs.State.{Register, State, World}
+use Rattle.model.specs.State.{State, World}
 use Rattle.model.specs.Changes.{Change, allFresh, pushed, popped, flagIs, mailIs, raised, cleared, enablesAre, dmaIs, withRegister, withInterrupts, apply, applyAll, Store, nothing, toShared, toWindow, sharedAfter, windowAfter, Effect, worldAfter}
 use Rattle.model.specs.TestLaws.{All}
 use Rattle.model.specs.LaneLaws.{Covers, read-write, write-write}

@@ -1,8 +1,8 @@
 -- "So a transfer ends within size / 4 steps": of each start done in a list, the transfer's done steps are at most size / 4, and the last of so many ends it.
 -- By induction over the list: every done step that does not end the transfer leaves one dword fewer to go, and at least one.
-use mathlib.Core.Path.{_≡_, refl, ap, _∙_, subst}
+use mathlib.Core.Path.{_≡_, refl, _∙_, subst}
 use mathlib.Core.Logic.{_⊎_, inl, inr}
-use mathlib.Core.Bool.{Bool, true, false}
+use mathlib.Core.Bool.{true, false}
 use mathlib.Core.List.{List, [], _∷_, map}
 use Prim.Native.Nat.{ℕ, zero, suc, _-_, _/_, _<_}
 use native.Mathlib.Nat.{sub-zero}

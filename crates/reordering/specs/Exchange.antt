@@ -4,9 +4,9 @@ use mathlib.Core.Path.{_≡_, refl, sym, ap, _∙_, subst}
 use mathlib.Core.Logic.{_≢_, _⊎_, inl, inr}
 use mathlib.Core.Bool.{Bool, true, false, not, _&&_, _||_}
 use mathlib.Core.List.{List, [], _∷_, _++_, map, List·Permᴰ}
-use Prim.Native.Nat.{ℕ, zero, suc, _+_, _-_, _*_, _≤_, _<_}
+use Prim.Native.Nat.{ℕ, zero, suc, _+_, _-_, _*_, _≤_}
 use native.Mathlib.Omega.{arith}
-use lib.Dec.{eqb, leb, ltb}
+use lib.Dec.{eqb}
 use borrow.Author.Tests.{lt-ltb, eq-eqb, eqb-true, eqb-false, not-false, not-true}
 use Rattle.model.specs.Choice.{if_then_else_, every}
 use Rattle.model.specs.Checks.{_for_, refusal}
@@ -24,7 +24,7 @@ use Rattle.model.specs.KindNumbers.{numberOf, number-at, kind-at}
 use Rattle.model.specs.Refusals.{number-is, checks-passed, done-is, refused-is}
 use Rattle.model.specs.Soundness.{sound-parts, fit-parts, stays, stays-fit, done-fit}
 use Rattle.reordering.specs.Roles.{TransferAction, resets, starts, steps, none, roles, moved, Owned}
-use Rattle.reordering.specs.Reordering.{Place, sharedByte, pciByte, Touch, starting, resetting, readingInterrupts, writingInterrupts, askingLine, reading, writing, doneTouches, startTouches, inRange, inSource, inDestination, disturbs, quiet, doneAction, actionOf, StepsMove}
+use Rattle.reordering.specs.Reordering.{Place, sharedByte, pciByte, Touch, reading, writing, doneTouches, startTouches, inRange, disturbs, quiet, doneAction, actionOf, StepsMove}
 use Rattle.reordering.specs.Moving.{Exchange, Exchanged, moved-same, moved-perm, owned}
 use Rattle.reordering.specs.Commute.{Stepwise, Misses, Like, like, reads-shared, reads-window, swap-effects}
 use Rattle.reordering.specs.Kinds.{PlainKind, plain-effect, plain-changes, plain-dma, plain-fixed, Fixed, same-checks, same-effect}

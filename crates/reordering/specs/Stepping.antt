@@ -1,11 +1,11 @@
 -- What a step looks at and what it changes; and the first law of rule 3: an access leaves open the transfer that its action says.
 use mathlib.Core.Path.{_≡_, refl, sym, ap, _∙_}
 use mathlib.Core.Logic.{_≢_}
-use mathlib.Core.Bool.{Bool, true, false, not, _&&_, _||_}
+use mathlib.Core.Bool.{Bool, true, false, not, _||_}
 use mathlib.Core.List.{List, [], _∷_}
-use Prim.Native.Nat.{ℕ, zero, suc, _+_, _-_, _*_, _/_, _≤_, _<_}
+use Prim.Native.Nat.{ℕ, zero, suc, _+_, _-_, _*_, _/_, _≤_}
 use native.Mathlib.Omega.{arith}
-use lib.Dec.{eqb, leb, ltb, eqb·suc-zero}
+use lib.Dec.{eqb, ltb, eqb·suc-zero}
 use borrow.Author.Tests.{ltb-false, le-leb, lt-ltb, eq-eqb, not-false}
 use Rattle.model.specs.Choice.{if_then_else_}
 use Rattle.model.specs.Checks.{refusal}
@@ -15,14 +15,14 @@ use Rattle.model.specs.State.{Settings, Transfer, Dma, idle, running, World, mu
 use Rattle.model.specs.Changes.{Store, nothing, toShared, toWindow, Effect, done, _storing_, dmaIs, applyAll, raisedInBoth}
 use Rattle.model.specs.Steps.{inAbortRange, outsideWindow, pciOf, copy, copyOf, stepped}
 use Rattle.model.specs.Entries.{entryAt}
-use Rattle.model.specs.Accesses.{Access, Answer, Kind, reset, sharedRead, sharedWrite, windowRead, windowWrite, take, put, claim, release, mailboxWrite, mailboxRead, interruptRead, interruptWrite, line, start, step, externalPin, unknown, kindOf, isIdle, rowOf, checks, settled, access}
+use Rattle.model.specs.Accesses.{Access, Kind, reset, sharedRead, sharedWrite, windowRead, windowWrite, take, put, claim, release, mailboxWrite, mailboxRead, interruptRead, interruptWrite, line, start, step, externalPin, unknown, kindOf, isIdle, rowOf, checks, settled, access}
 use Rattle.model.specs.TestLaws.{All, no-both, or-left, or-right, and-true, if-case}
 use Rattle.model.specs.CheckLaws.{Pass}
 use Rattle.model.specs.LaneLaws.{Covers, covers-from, covers-below}
 use Rattle.model.specs.Refusals.{checks-passed}
 use Rattle.model.specs.Soundness.{sound-transfer}
 use Rattle.reordering.specs.Roles.{TransferAction, resets, starts, steps, none, openAfter}
-use Rattle.reordering.specs.Reordering.{sharedByte, pciByte, inRange, inSource, inDestination, quiet, doneAction, actionOf}
+use Rattle.reordering.specs.Reordering.{sharedByte, pciByte, inRange, inDestination, quiet, doneAction, actionOf}
 use Rattle.reordering.specs.Moving.{Follows}
 use Rattle.reordering.specs.Commute.{Stepwise, Misses, Hits}
 use Rattle.reordering.specs.Kinds.{plain-dma}

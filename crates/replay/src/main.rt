@@ -3,8 +3,8 @@ ghost use mathlib.Core.Path.{_≡_};
 ghost use Prim.Native.Nat.{_+_, _<_, _≤_, _^_};
 ghost use lib.ListN.{length};
 ghost use Rattle.model.specs.Replay.{replayStart};
-ghost use Rattle.player.specs.Standings.{standingOf};
-use player::Standing;
+ghost use Rattle.standing.specs.Standings.{standingOf};
+use standing::Standing;
 
 // A chunk is 3,276 records of 20 bytes.
 const CHUNK: usize = 65520;
@@ -79,17 +79,17 @@ fn replay_input(
 }
 
 fn main() {
-    let mut shared = player::shared_memory();
-    let mut window = player::window_memory();
+    let mut shared = standing::shared_memory();
+    let mut window = standing::window_memory();
     let mut input = input_buffer();
     let mut out = output_buffer();
     let standing = replay_input(
-        player::start(),
+        standing::start(),
         &mut shared,
         &mut window,
         &mut input,
         &mut out,
     );
-    let end = player::last_line(standing.stopped, standing.count, &mut out);
+    let end = standing::last_line(standing.stopped, standing.count, &mut out);
     io::write_all(1, &out[0..end]);
 }

@@ -2,7 +2,7 @@
 ghost use mathlib.Core.Path.{_≡_};
 ghost use Prim.Native.Nat.{_+_, _<_, _≤_, _^_};
 ghost use lib.ListN.{length};
-use player::Standing;
+use standing::Standing;
 
 // A chunk is what the replay program reads at a time: 3,276 records of 20 bytes.
 fn input_buffer() -> [u8; 65520]
@@ -71,16 +71,16 @@ fn replay_chunks(
 fn finish(stopped: bool, count: u64, out: &mut [u8])
     requires { ⌜ length (now out) ≡ 104832 ⌝ }
 {
-    let end = player::last_line(stopped, count, out);
+    let end = standing::last_line(stopped, count, out);
     io::write_all(1, &out[0..end]);
 }
 
 fn replay_trace(input: &mut [u8], out: &mut [u8], bytes: u32)
     requires { ⌜ (length (now input) ≡ 65520) × (length (now out) ≡ 104832) ⌝ }
 {
-    let mut shared = player::shared_memory();
-    let mut window = player::window_memory();
-    let start = player::start();
+    let mut shared = standing::shared_memory();
+    let mut window = standing::window_memory();
+    let start = standing::start();
     let standing = replay_chunks(start, &mut shared, &mut window, input, out, bytes);
     finish(standing.stopped, standing.count, out);
 }

@@ -196,8 +196,8 @@ pub fn text() -> String {
 
 const HEAD: &str = "\
 -- Written by the independent program, oracle/: records, and whether they are sound.
-use mathlib.Core.Path.{_≡_, refl}
-use mathlib.Core.Bool.{Bool, true, false}
+use mathlib.Core.Path.{refl}
+use mathlib.Core.Bool.{true, false}
 use mathlib.Core.List.{List, [], _∷_}
 use Rattle.model.specs.State.{idle, running, sound}
 use Rattle.cases.specs.Vectors.{settings, flags, mail, interrupts, transfer, card, SoundCase, soundCase, SoundnessAgrees}

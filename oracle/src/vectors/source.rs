@@ -199,7 +199,7 @@ pub fn text() -> String {
 
 const HEAD: &str = "\
 -- Written by the independent program, oracle/: requests for a transfer's source.
-use mathlib.Core.Path.{_≡_, refl}
+use mathlib.Core.Path.{refl}
 use mathlib.Core.List.{List, [], _∷_}
 use Rattle.model.specs.Source.{sharedMemory, windowMemory, source}
 use Rattle.cases.specs.Vectors.{settings, transfer, part, SourceCase, sourceCase, SourcesAgree}

@@ -8,7 +8,7 @@ use lib.ListN.{length}
 use Rattle.model.specs.Replay.{recordsIn, replay}
 use Rattle.model.specs.ReplayLaws.{replay-stopped}
 use Rattle.card.specs.Did.{outcomeOf}
-use Rattle.player.specs.Standings.{standingOf, going}
+use Rattle.standing.specs.Standings.{standingOf, going}
 use Rattle.player.specs.Progress.{Left, all-left, none-left, answered-left, refused-left, read-refused, from}
 use Rattle.player.proofs.answer_chunk.Statement.{statement}
 use Rattle.player.proofs.answer_chunk.Tie as tie

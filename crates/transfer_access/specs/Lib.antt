@@ -1,3 +1,0 @@
-pub mod StartLaws
-pub mod StepFits
-pub mod StepLaws

@@ -1,0 +1,2 @@
+pub mod StepFits
+pub mod StepLaws
