@@ -41,11 +41,6 @@ covers-from zero at lanes i c = absurd c
 covers-from (suc n) at lanes i (inl p) = omega (arith, p .1)
 covers-from (suc n) at lanes i (inr c) = omega (arith, covers-from n (at + 1) (lanes / 2) i c)
 
-pub covers-below : (n at lanes i : ℕ) → Covers n at lanes i → i < at + n
-covers-below zero at lanes i c = absurd c
-covers-below (suc n) at lanes i (inl p) = omega (arith, p .1)
-covers-below (suc n) at lanes i (inr c) = omega (arith, covers-below n (at + 1) (lanes / 2) i c)
-
 -- it is the byte of lane k, for some enabled lane k
 pub covers-lane : (n at lanes i : ℕ) → Covers n at lanes i → (k : ℕ) × (k < n) × (i ≡ at + k) × (enabled (lanes / 2 ^ k) ≡ true)
 covers-lane zero at lanes i c = absurd c
@@ -194,11 +189,6 @@ write-write m a l v a′ l′ v′ h = stores-comm (bytesOf 4 v) (bytesOf 4 v′
 pub read-back : (m : List ℕ) (a l v : ℕ) → a + 4 ≤ length m → readDword (writeDword m a l v) a l ≡ readDword (bytesOf 4 v) 0 l
 unfolding readDword writeDword
 read-back m a l v h = ap dwordOf (values-back (bytesOf 4 v) m a l h)
-
--- dwords that do not overlap are apart, whatever their lanes
-pub apart-far : (a l a′ l′ : ℕ) → (a + 4 ≤ a′) ⊎ (a′ + 4 ≤ a) → Apart a l a′ l′
-apart-far a l a′ l′ (inl h) i c d = omega (arith, covers-below 4 a l i c, covers-from 4 a′ l′ i d)
-apart-far a l a′ l′ (inr h) i c d = omega (arith, covers-from 4 a l i c, covers-below 4 a′ l′ i d)
 
 -- "Lanes 15 is done, stores nothing and reads 0."
 pub lanes-15-read : (m : List ℕ) (a : ℕ) → readDword m a 15 ≡ 0
