@@ -4,8 +4,8 @@ use mathlib.Core.List.{List, [], _∷_}
 use Rattle.model.specs.Source.{sharedMemory, windowMemory, source}
 use Rattle.cases.specs.Vectors.{settings, transfer, part, SourceCase, sourceCase, SourcesAgree}
 
-cases : List SourceCase
-cases =
+cases1 : List SourceCase
+cases1 =
     sourceCase (settings 268435456 256 64 128) 16384 256 (transfer 0 0 268435456 0) (part sharedMemory 0 0)
     ∷ sourceCase (settings 268435456 256 64 128) 16384 256 (transfer 0 0 268435456 1) (part sharedMemory 0 0)
     ∷ sourceCase (settings 268435456 256 64 128) 16384 256 (transfer 0 0 268435456 2) (part sharedMemory 0 0)
@@ -66,7 +66,15 @@ cases =
     ∷ sourceCase (settings 4096 0 0 0) 16384 0 (transfer 0 0 4096 4) (part sharedMemory 0 0)
     ∷ sourceCase (settings 0 0 0 0) 16384 0 (transfer 0 0 0 4) (part sharedMemory 0 0)
     ∷ sourceCase (settings 2 64 0 0) 16384 64 (transfer 0 0 0 4) (part sharedMemory 0 0)
-    ∷ sourceCase (settings 0 62 0 0) 16384 62 (transfer 0 0 0 4) (part sharedMemory 0 0)
+    ∷ []
+
+agrees1 : SourcesAgree cases1
+unfolding cases1 source
+agrees1 = refl
+
+cases2 : List SourceCase
+cases2 =
+    sourceCase (settings 0 62 0 0) 16384 62 (transfer 0 0 0 4) (part sharedMemory 0 0)
     ∷ sourceCase (settings 0 64 2 4) 16384 64 (transfer 0 0 0 4) (part sharedMemory 0 0)
     ∷ sourceCase (settings 0 64 4 6) 16384 64 (transfer 0 0 0 4) (part sharedMemory 0 0)
     ∷ sourceCase (settings 0 64 8 4) 16384 64 (transfer 0 0 0 4) (part sharedMemory 0 0)
@@ -126,7 +134,15 @@ cases =
     ∷ sourceCase (settings 268435456 256 64 128) 16384 256 (transfer 1 40 268435708 8) (part sharedMemory 40 8)
     ∷ sourceCase (settings 268435456 256 64 128) 16384 256 (transfer 1 40 268435708 4) (part sharedMemory 40 4)
     ∷ sourceCase (settings 268435456 256 64 128) 16384 256 (transfer 1 40 268435712 4) (part sharedMemory 40 4)
-    ∷ sourceCase (settings 268435456 256 64 128) 16384 256 (transfer 1 40 268435520 64) (part sharedMemory 40 64)
+    ∷ []
+
+agrees2 : SourcesAgree cases2
+unfolding cases2 source
+agrees2 = refl
+
+cases3 : List SourceCase
+cases3 =
+    sourceCase (settings 268435456 256 64 128) 16384 256 (transfer 1 40 268435520 64) (part sharedMemory 40 64)
     ∷ sourceCase (settings 268435456 256 64 128) 16384 256 (transfer 1 40 268435516 8) (part sharedMemory 40 8)
     ∷ sourceCase (settings 268435456 256 64 128) 16384 256 (transfer 1 40 268435580 8) (part sharedMemory 40 8)
     ∷ sourceCase (settings 268435456 256 64 128) 16384 256 (transfer 1 40 268435456 4) (part sharedMemory 40 4)
@@ -176,6 +192,6 @@ cases =
     ∷ sourceCase (settings 268435456 256 64 128) 0 256 (transfer 2 0 268435456 0) (part sharedMemory 0 0)
     ∷ []
 
-agrees : SourcesAgree cases
-unfolding cases source
-agrees = refl
+agrees3 : SourcesAgree cases3
+unfolding cases3 source
+agrees3 = refl

@@ -193,8 +193,28 @@ fn line(case: &Case) -> String {
     )
 }
 
+/// How many requests stand in one equation: a long one takes much memory to check.
+const PORTION: usize = 60;
+
 pub fn text() -> String {
-    format!("{HEAD}{}{TAIL}", text::entries(cases().iter().map(line)))
+    let portions: Vec<String> = cases()
+        .chunks(PORTION)
+        .zip(1..)
+        .map(|(cases, number)| portion(number, cases))
+        .collect();
+    format!("{HEAD}{}", portions.join("\n"))
+}
+
+fn portion(number: usize, cases: &[Case]) -> String {
+    let entries = text::entries(cases.iter().map(line));
+    format!(
+        "cases{number} : List SourceCase\n\
+         cases{number} =\n\
+         {entries}\n\
+         agrees{number} : SourcesAgree cases{number}\n\
+         unfolding cases{number} source\n\
+         agrees{number} = refl\n"
+    )
 }
 
 const HEAD: &str = "\
@@ -204,12 +224,4 @@ use mathlib.Core.List.{List, [], _∷_}
 use Rattle.model.specs.Source.{sharedMemory, windowMemory, source}
 use Rattle.cases.specs.Vectors.{settings, transfer, part, SourceCase, sourceCase, SourcesAgree}
 
-cases : List SourceCase
-cases =
-";
-
-const TAIL: &str = "
-agrees : SourcesAgree cases
-unfolding cases source
-agrees = refl
 ";
