@@ -49,6 +49,7 @@ module _ (c : Card) where
   unfolding stateOf
   dma-is = refl
 
+-- a FIFO of the array
 abbrev pub fifoAt : Card → ℕ → Fifo
 fifoAt c i = getD (c .fifos) i (record { entries = []; count = 0 })
 
@@ -96,9 +97,11 @@ both-raised c n i e = interrupts-set c i _ e ∙ rw (interrupts-is c)
 
 -- AN EFFECT
 
+-- what holds of an effect holds of one that equals it
 pub by-effect : (P : Effect → Type 0) (e f : Effect) → e ≡ f → P f → P e
 by-effect P e f p q = rw p q
 
+-- what an operation gave, as a property of its effect
 abbrev pub Gives : Card → Outcome → Effect → Type 0
 Gives c r e = Effected e c r
 
