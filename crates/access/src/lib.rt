@@ -1,4 +1,4 @@
-// The words of an access: what is asked, what is answered, and the numbers of the refusals.
+// The words of an access: what is asked, what is answered, the numbers of the refusals, and the checks that several kinds share.
 ghost use mathlib.Core.Path.{_≡_};
 ghost use mathlib.Core.List.{[], _∷_};
 ghost use Prim.Native.Nat.{_<_};
@@ -91,7 +91,7 @@ pub fn misplaced(at: u32, count: u32, lo: u64, hi: u64) -> bool
     (from % 4 != 0) | (from < lo) | (hi < end)
 }
 
-// Kinds 0, 10, 11 and 13 use no field.
+// Kinds 0, 10, 11 and 13 have cause 3 alone, of all four fields.
 pub fn no_field(q: Access) -> u8
     ensures { λ r. ⌜ r ≡ refusal ((3 for nonzero (q .s ∷ q .a ∷ q .b ∷ q .c ∷ [])) ∷ []) ⌝ }
 {

@@ -33,7 +33,7 @@ pub record Did (k : Kind) (card : Card) (q : Access) (m w : List ℕ) (r : Outco
   pub kept : (answerOf (r .answer) .number ≡ 0 → ⊥) → r .card ≡ card
   pub said : r .answer ≡ Refused 0 → ⊥
 
--- the number of a refusal, and 1 for what is done: so that the two are told apart
+-- the number of a refusal, and 1 for what is done, so that this is told apart from `Refused 0`
 abbrev pub refusalOf : Answer → ℕ
 refusalOf (Done v x) = 1
 refusalOf (Refused n) = n

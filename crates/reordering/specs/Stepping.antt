@@ -1,23 +1,24 @@
 -- What a step looks at and what it changes; and the first law of rule 3: an access leaves open the transfer that its action says.
 use mathlib.Core.Path.{_≡_, refl, sym, ap, _∙_}
 use mathlib.Core.Logic.{_≢_}
-use mathlib.Core.Bool.{Bool, true, false, not, _||_}
+use mathlib.Core.Bool.{Bool, true, false, _||_}
 use mathlib.Core.List.{List, [], _∷_}
 use Prim.Native.Nat.{ℕ, zero, suc, _+_, _-_, _*_, _/_, _≤_}
 use native.Mathlib.Omega.{arith}
-use lib.Dec.{eqb, ltb, eqb·suc-zero}
+use lib.Dec.{eqb, eqb·suc-zero}
 use borrow.Author.Tests.{ltb-false, le-leb, lt-ltb, eq-eqb, not-false}
 use Rattle.model.specs.Choice.{if_then_else_}
 use Rattle.model.specs.Checks.{refusal}
 use Rattle.model.specs.Lanes.{readDword}
 use Rattle.model.specs.Events.{dmaComplete, targetAbort, masterAbort}
-use Rattle.model.specs.State.{Settings, Transfer, Dma, idle, running, World, multipleOf4, dmaSound}
+use Rattle.model.specs.State.{Settings, Transfer, Dma, idle, running, World, dmaSound}
 use Rattle.model.specs.Changes.{Store, nothing, toShared, toWindow, Effect, done, _storing_, dmaIs, applyAll, raisedInBoth}
 use Rattle.model.specs.Steps.{inAbortRange, outsideWindow, pciOf, copy, copyOf, stepped}
 use Rattle.model.specs.Entries.{entryAt}
 use Rattle.model.specs.Accesses.{Access, Kind, reset, sharedRead, sharedWrite, windowRead, windowWrite, take, put, claim, release, mailboxWrite, mailboxRead, interruptRead, interruptWrite, line, start, step, externalPin, unknown, kindOf, isIdle, rowOf, checks, settled, access}
-use Rattle.model.specs.TestLaws.{All, no-both, or-left, or-right, and-true, if-case}
+use Rattle.model.specs.TestLaws.{All, no-both, and-true, if-case}
 use Rattle.model.specs.CheckLaws.{Pass}
+use Rattle.model.specs.CauseLaws.{placed}
 use Rattle.model.specs.LaneLaws.{Covers, covers-from, covers-below}
 use Rattle.model.specs.Refusals.{checks-passed}
 use Rattle.model.specs.Soundness.{sound-transfer}
@@ -41,8 +42,7 @@ if-same false x y x′ y′ f g = g refl
 
 -- an address in the window is not below its base
 pub from-base : (s : Settings) (at : ℕ) → outsideWindow s at ≡ false → s .base ≤ at
-from-base s at h =
-    ltb-false at (s .base) (or-right (not (multipleOf4 at)) (ltb at (s .base)) (or-left (not (multipleOf4 at) || ltb at (s .base)) (ltb (s .base + s .length) (at + 4)) h))
+from-base s at h = placed at 4 (s .base) (s .base + s .length) h .low
 
 module _ (w : World) (t : Transfer) (i : ℕ) where
   abbrev at : ℕ

@@ -9,7 +9,7 @@ ghost use Rattle.model.specs.Accesses.{transferOf};
 ghost use Rattle.model.specs.Source.{sourceChecks, source};
 ghost use Rattle.settings.specs.Bridge.{settingsAs};
 ghost use Rattle.dma.specs.Bridge.{transferAs};
-ghost use Rattle.source.specs.Placed.{placed};
+ghost use Rattle.source.specs.LentParts.{lentPart};
 use dma::Transfer;
 use settings::Settings;
 
@@ -47,7 +47,7 @@ pub fn source<'a>(
     c: u32,
 ) -> &'a [u8]
     ensures { λ r. ⌜ record { at = ptr r; bytes = now r }
-        ≡ placed (shared .entry) (window .entry) (source (settingsAs settings) (now (shared .entry)) (now (window .entry)) (transferOf direction a b c)) ⌝ }
+        ≡ lentPart (shared .entry) (window .entry) (source (settingsAs settings) (now (shared .entry)) (now (window .entry)) (transferOf direction a b c)) ⌝ }
 {
     let transfer = Transfer {
         direction: direction,

@@ -5,7 +5,7 @@ use denote.Ref.{RefT, ptr, now}
 use Rattle.model.specs.Source.{Memory, sharedMemory, windowMemory, Part, partBytes}
 
 -- A slice's place is the memory that it lies in and its offset there; its bytes say how far it goes.
-pub record Placed : Type 0 where
+pub record LentPart : Type 0 where
   pub at : ℕ × ℕ
   pub bytes : List ℕ
 
@@ -14,8 +14,8 @@ lentFor shared window sharedMemory = shared
 lentFor shared window windowMemory = window
 
 -- the model's part, of the memories that were lent
-abbrev pub placed : (shared window : RefT (List ℕ)) → Part → Placed
-placed shared window p = record {
+abbrev pub lentPart : (shared window : RefT (List ℕ)) → Part → LentPart
+lentPart shared window p = record {
   at = (ptr (lentFor shared window (p .memory)) .0, p .offset + ptr (lentFor shared window (p .memory)) .1);
   bytes = partBytes (now shared) (now window) p;
 }
