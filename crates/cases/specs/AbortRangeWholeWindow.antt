@@ -1,14 +1,13 @@
 -- Written by the independent program, oracle/: a list of accesses with its answers, and what it leaves.
-use mathlib.Core.Path.{_≡_, refl}
-use mathlib.Core.Bool.{Bool, true, false}
+use mathlib.Core.Path.{refl}
 use mathlib.Core.List.{List, [], _∷_}
-use Prim.Native.Nat.{ℕ}
 use Rattle.model.specs.Lanes.{readDword, writeDword}
-use Rattle.model.specs.State.{idle, running, World, sound, freshCard, freshWorld}
+use Rattle.model.specs.Transfer.{running}
+use Rattle.model.specs.State.{World, sound, freshCard, freshWorld, withInterrupts, withTransfer}
 use Rattle.model.specs.Runs.{Entry}
 use Rattle.model.specs.Accesses.{Access, Answer, access}
 use Rattle.model.specs.Bench.{q, r, _gives_}
-use Rattle.cases.specs.Vectors.{settings, flags, mail, interrupts, transfer, card, world, bytes, RunAgrees}
+use Rattle.cases.specs.Vectors.{settings, interrupts, request, untouched, world, bytes, RunAgrees}
 
 first : World
 first = freshWorld (settings 2147483584 64 0 64) (bytes ((0, 80 ∷ 67 ∷ 163 ∷ 129 ∷ 42 ∷ 141 ∷ 25 ∷ 199 ∷ 87 ∷ 245 ∷ 41 ∷ 65 ∷ 233 ∷ 248 ∷ 243 ∷ 62 ∷ 156 ∷ 233 ∷ 183 ∷ 201 ∷ []) ∷ (16344, 45 ∷ 208 ∷ 194 ∷ 116 ∷ 167 ∷ 238 ∷ 220 ∷ 191 ∷ 99 ∷ 232 ∷ 164 ∷ 51 ∷ 144 ∷ 160 ∷ 109 ∷ 236 ∷ 50 ∷ 69 ∷ 136 ∷ 23 ∷ []) ∷ [])) (bytes ((0, 114 ∷ 139 ∷ 240 ∷ 166 ∷ 196 ∷ 137 ∷ 109 ∷ 93 ∷ 65 ∷ 4 ∷ 255 ∷ 255 ∷ 144 ∷ 223 ∷ 66 ∷ 122 ∷ 65 ∷ 211 ∷ 125 ∷ 95 ∷ []) ∷ (24, 109 ∷ 151 ∷ 103 ∷ 152 ∷ 98 ∷ 110 ∷ 102 ∷ 207 ∷ 226 ∷ 108 ∷ 201 ∷ 106 ∷ 225 ∷ 170 ∷ 151 ∷ 142 ∷ 144 ∷ 86 ∷ 103 ∷ 9 ∷ []) ∷ []))
@@ -70,12 +69,7 @@ entries =
 last : World
 last =
     world
-    (card (settings 2147483584 64 0 64)
-    ([] ∷ [] ∷ [] ∷ [] ∷ [])
-    (flags false false ∷ flags false false ∷ flags false false ∷ flags false false ∷ [])
-    (mail 0 0 false)
-    (interrupts 256 768 288 768)
-    (running (transfer 0 16360 2147483616 24) 0))
+    (withInterrupts (interrupts 256 768 288 768) (withTransfer (running (request 0 16360 2147483616 24) 0) (untouched (settings 2147483584 64 0 64))))
     (bytes ((0, 80 ∷ 67 ∷ 163 ∷ 129 ∷ 42 ∷ 141 ∷ 25 ∷ 199 ∷ 87 ∷ 245 ∷ 41 ∷ 65 ∷ 233 ∷ 248 ∷ 243 ∷ 62 ∷ 156 ∷ 233 ∷ 183 ∷ 201 ∷ []) ∷ (16344, 45 ∷ 208 ∷ 194 ∷ 116 ∷ 167 ∷ 238 ∷ 220 ∷ 191 ∷ 99 ∷ 232 ∷ 164 ∷ 51 ∷ 144 ∷ 160 ∷ 109 ∷ 236 ∷ 50 ∷ 69 ∷ 136 ∷ 23 ∷ []) ∷ []))
     (bytes ((0, 114 ∷ 139 ∷ 240 ∷ 166 ∷ 196 ∷ 137 ∷ 109 ∷ 93 ∷ 65 ∷ 4 ∷ 255 ∷ 255 ∷ 144 ∷ 223 ∷ 66 ∷ 122 ∷ 65 ∷ 211 ∷ 125 ∷ 95 ∷ []) ∷ (24, 109 ∷ 151 ∷ 103 ∷ 152 ∷ 98 ∷ 110 ∷ 102 ∷ 207 ∷ 226 ∷ 108 ∷ 201 ∷ 106 ∷ 225 ∷ 170 ∷ 151 ∷ 142 ∷ 144 ∷ 86 ∷ 103 ∷ 9 ∷ []) ∷ []))
 

@@ -1,14 +1,12 @@
 -- Written by the independent program, oracle/: a list of accesses with its answers, and what it leaves.
-use mathlib.Core.Path.{_≡_, refl}
-use mathlib.Core.Bool.{Bool, true, false}
+use mathlib.Core.Path.{refl}
 use mathlib.Core.List.{List, [], _∷_}
-use Prim.Native.Nat.{ℕ}
 use Rattle.model.specs.Lanes.{readDword, writeDword}
-use Rattle.model.specs.State.{idle, running, World, sound, freshCard, freshWorld}
+use Rattle.model.specs.State.{World, sound, freshCard, freshWorld, withInterrupts}
 use Rattle.model.specs.Runs.{Entry}
 use Rattle.model.specs.Accesses.{Access, Answer, access}
 use Rattle.model.specs.Bench.{q, r, _gives_}
-use Rattle.cases.specs.Vectors.{settings, flags, mail, interrupts, transfer, card, world, bytes, RunAgrees}
+use Rattle.cases.specs.Vectors.{settings, interrupts, untouched, world, bytes, RunAgrees}
 
 first : World
 first = freshWorld (settings 0 0 0 0) (bytes ((0, 188 ∷ 29 ∷ 93 ∷ 21 ∷ 200 ∷ 245 ∷ 122 ∷ 145 ∷ 63 ∷ 134 ∷ 231 ∷ 237 ∷ 208 ∷ 223 ∷ 199 ∷ 191 ∷ 141 ∷ 145 ∷ 112 ∷ 148 ∷ []) ∷ (16344, 145 ∷ 89 ∷ 138 ∷ 7 ∷ 151 ∷ 94 ∷ 31 ∷ 107 ∷ 181 ∷ 25 ∷ 108 ∷ 188 ∷ 113 ∷ 191 ∷ 39 ∷ 100 ∷ 213 ∷ 174 ∷ 124 ∷ 244 ∷ []) ∷ [])) (bytes [])
@@ -80,12 +78,7 @@ entries =
 last : World
 last =
     world
-    (card (settings 0 0 0 0)
-    ([] ∷ [] ∷ [] ∷ [] ∷ [])
-    (flags false false ∷ flags false false ∷ flags false false ∷ flags false false ∷ [])
-    (mail 0 0 false)
-    (interrupts 512 512 512 0)
-    idle)
+    (withInterrupts (interrupts 512 512 512 0) (untouched (settings 0 0 0 0)))
     (bytes ((0, 188 ∷ 139 ∷ 180 ∷ 21 ∷ 200 ∷ 245 ∷ 122 ∷ 145 ∷ 63 ∷ 134 ∷ 231 ∷ 237 ∷ 208 ∷ 223 ∷ 199 ∷ 191 ∷ 141 ∷ 145 ∷ 112 ∷ 148 ∷ []) ∷ (16344, 145 ∷ 89 ∷ 138 ∷ 7 ∷ 151 ∷ 94 ∷ 31 ∷ 107 ∷ 181 ∷ 25 ∷ 108 ∷ 188 ∷ 113 ∷ 191 ∷ 39 ∷ 100 ∷ 213 ∷ 91 ∷ 23 ∷ 244 ∷ []) ∷ []))
     (bytes [])
 

@@ -1,14 +1,12 @@
 -- Written by the independent program, oracle/: a list of accesses with its answers, and what it leaves.
-use mathlib.Core.Path.{_≡_, refl}
-use mathlib.Core.Bool.{Bool, true, false}
+use mathlib.Core.Path.{refl}
 use mathlib.Core.List.{List, [], _∷_}
-use Prim.Native.Nat.{ℕ}
 use Rattle.model.specs.Lanes.{readDword, writeDword}
-use Rattle.model.specs.State.{idle, running, World, sound, freshCard, freshWorld}
+use Rattle.model.specs.State.{World, sound, freshCard, freshWorld, withInterrupts}
 use Rattle.model.specs.Runs.{Entry}
 use Rattle.model.specs.Accesses.{Access, Answer, access}
 use Rattle.model.specs.Bench.{q, r, _gives_}
-use Rattle.cases.specs.Vectors.{settings, flags, mail, interrupts, transfer, card, world, bytes, RunAgrees}
+use Rattle.cases.specs.Vectors.{settings, interrupts, untouched, world, bytes, RunAgrees}
 
 first : World
 first = freshWorld (settings 268435456 0 0 0) (bytes ((0, 17 ∷ 182 ∷ 110 ∷ 180 ∷ 30 ∷ 235 ∷ 250 ∷ 33 ∷ 181 ∷ 132 ∷ 99 ∷ 220 ∷ 212 ∷ 6 ∷ 220 ∷ 67 ∷ 13 ∷ 49 ∷ 255 ∷ 114 ∷ []) ∷ (16344, 156 ∷ 182 ∷ 119 ∷ 134 ∷ 24 ∷ 58 ∷ 25 ∷ 151 ∷ 116 ∷ 168 ∷ 210 ∷ 30 ∷ 113 ∷ 114 ∷ 170 ∷ 235 ∷ 248 ∷ 108 ∷ 133 ∷ 14 ∷ []) ∷ [])) (bytes [])
@@ -80,12 +78,7 @@ entries =
 last : World
 last =
     world
-    (card (settings 268435456 0 0 0)
-    ([] ∷ [] ∷ [] ∷ [] ∷ [])
-    (flags false false ∷ flags false false ∷ flags false false ∷ flags false false ∷ [])
-    (mail 0 0 false)
-    (interrupts 512 512 512 0)
-    idle)
+    (withInterrupts (interrupts 512 512 512 0) (untouched (settings 268435456 0 0 0)))
     (bytes ((0, 17 ∷ 34 ∷ 251 ∷ 180 ∷ 30 ∷ 235 ∷ 250 ∷ 33 ∷ 181 ∷ 132 ∷ 99 ∷ 220 ∷ 212 ∷ 6 ∷ 220 ∷ 67 ∷ 13 ∷ 49 ∷ 255 ∷ 114 ∷ []) ∷ (16344, 156 ∷ 182 ∷ 119 ∷ 134 ∷ 24 ∷ 58 ∷ 25 ∷ 151 ∷ 116 ∷ 168 ∷ 210 ∷ 30 ∷ 113 ∷ 114 ∷ 170 ∷ 235 ∷ 248 ∷ 205 ∷ 207 ∷ 14 ∷ []) ∷ []))
     (bytes [])
 

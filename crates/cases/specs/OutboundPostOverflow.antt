@@ -1,14 +1,12 @@
 -- Written by the independent program, oracle/: a list of accesses with its answers, and what it leaves.
-use mathlib.Core.Path.{_≡_, refl}
-use mathlib.Core.Bool.{Bool, true, false}
+use mathlib.Core.Path.{refl}
 use mathlib.Core.List.{List, [], _∷_}
-use Prim.Native.Nat.{ℕ}
 use Rattle.model.specs.Lanes.{readDword, writeDword}
-use Rattle.model.specs.State.{idle, running, World, sound, freshCard, freshWorld}
+use Rattle.model.specs.State.{World, sound, freshCard, freshWorld, withInterrupts}
 use Rattle.model.specs.Runs.{Entry}
 use Rattle.model.specs.Accesses.{Access, Answer, access}
 use Rattle.model.specs.Bench.{q, r, _gives_}
-use Rattle.cases.specs.Vectors.{settings, flags, mail, interrupts, transfer, card, world, bytes, RunAgrees}
+use Rattle.cases.specs.Vectors.{settings, interrupts, untouched, world, bytes, RunAgrees}
 
 first : World
 first = freshWorld (settings 268435456 64 0 68) (bytes ((0, 54 ∷ 4 ∷ 64 ∷ 92 ∷ 26 ∷ 44 ∷ 211 ∷ 79 ∷ 20 ∷ 89 ∷ 31 ∷ 198 ∷ 94 ∷ 135 ∷ 169 ∷ 171 ∷ 7 ∷ 112 ∷ 193 ∷ 204 ∷ []) ∷ (16344, 12 ∷ 53 ∷ 137 ∷ 66 ∷ 244 ∷ 136 ∷ 182 ∷ 1 ∷ 191 ∷ 118 ∷ 66 ∷ 58 ∷ 99 ∷ 71 ∷ 217 ∷ 104 ∷ 154 ∷ 247 ∷ 61 ∷ 114 ∷ []) ∷ [])) (bytes [])
@@ -103,12 +101,7 @@ entries =
 last : World
 last =
     world
-    (card (settings 0 0 0 0)
-    ([] ∷ [] ∷ [] ∷ [] ∷ [])
-    (flags false false ∷ flags false false ∷ flags false false ∷ flags false false ∷ [])
-    (mail 0 0 false)
-    (interrupts 192 0 0 1)
-    idle)
+    (withInterrupts (interrupts 192 0 0 1) (untouched (settings 0 0 0 0)))
     (bytes ((0, 54 ∷ 4 ∷ 64 ∷ 92 ∷ 26 ∷ 44 ∷ 211 ∷ 79 ∷ 20 ∷ 89 ∷ 31 ∷ 198 ∷ 94 ∷ 135 ∷ 169 ∷ 171 ∷ 7 ∷ 112 ∷ 193 ∷ 204 ∷ []) ∷ (16344, 12 ∷ 53 ∷ 137 ∷ 66 ∷ 244 ∷ 136 ∷ 182 ∷ 1 ∷ 191 ∷ 118 ∷ 66 ∷ 58 ∷ 99 ∷ 71 ∷ 217 ∷ 104 ∷ 154 ∷ 247 ∷ 61 ∷ 114 ∷ []) ∷ []))
     (bytes [])
 
