@@ -6,23 +6,23 @@ use Prim.Native.Nat.{ℕ, _+_, _-_, _<_, _≤_}
 use native.Mathlib.Omega.{arith}
 use lib.ListN.{length, take, drop, length-drop}
 use lib.Seq.{sets, drop-drop, take-all}
-use Rattle.model.specs.Runs.{Outcome}
-use Rattle.model.specs.State.{World}
-use Rattle.model.specs.Accesses.{Access, Answer, access}
+use Rattle.model.specs.Accesses.{Access, access}
 use Rattle.model.specs.Trace.{recorded, refused, readRecord}
 use Rattle.model.specs.TraceLaws.{readingNumber}
-use Rattle.model.specs.Text.{logText}
+use Rattle.model.specs.Text.{logText, lineText}
 use Rattle.model.specs.Replay.{Standing, Replayed, nothingMore, _andThen_, answered, logged, replayRecord, replay}
 use Rattle.model.specs.ReplayLaws.{replay-stopped, replay-none, replay-more}
 use Rattle.trace.specs.declared.Read.{Read}
 use Rattle.trace.specs.declared.Read.the-variants.{Refused}
-use Rattle.trace.specs.Readings.{readOf}
-use Rattle.player.specs.Played.{Played}
-use Rattle.report.specs.Put.{Put, begun, second-left, ended}
+use Rattle.trace.specs.Bridge.{readAs}
+use Rattle.standing.specs.Bridge.{PerformedOn, performed}
+use Rattle.player.specs.Bridge.{Played}
+use Rattle.report.specs.Bridge.{Written}
+use Rattle.report.specs.Laws.{begun, second-left, ended}
 
 -- The replay of the bytes from `at` on, stored from `end` on, gives the buffer and the standing of the whole chunk.
 pub record Left (whole : Replayed) (before input : List ℕ) (at : ℕ) (now : Standing) (end : ℕ) (out : List ℕ) : Type 0 where
-  pub text : Put out end (replay now (drop at input) .text) (0 + length (whole .text)) (sets before 0 (whole .text))
+  pub text : Written out end (replay now (drop at input) .text) (0 + length (whole .text)) (sets before 0 (whole .text))
   pub standing : replay now (drop at input) .standing ≡ whole .standing
 
 -- the part of a slice from a place on
@@ -43,7 +43,7 @@ none-left {input} {at} {now} h l = nothing-left (replay-none now (drop at input)
 
 -- one record less
 one-less : {whole : Replayed} {before input out out′ : List ℕ} {at end end′ : ℕ} {now : Standing} (part : Replayed) → at < length input → now .stopped ≡ false →
-    part ≡ replayRecord now (readRecord (drop at input) (now .expected)) → Left whole before input at now end out → Put out end (part .text) end′ out′ →
+    part ≡ replayRecord now (readRecord (drop at input) (now .expected)) → Left whole before input at now end out → Written out end (part .text) end′ out′ →
     Left whole before input (at + 20) (part .standing) end′ out′
 one-less {input} {at} {now} part h going e l p =
     let more : replay now (drop at input) ≡ (part andThen λ s. replay s (drop (at + 20) input)) =
@@ -52,15 +52,16 @@ one-less {input} {at} {now} part h going e l p =
     record { text = second-left (rw more at (l .text)) p; standing = rw more at (l .standing) }
 
 module _ {whole : Replayed} {before input out out′ : List ℕ} {at end end′ : ℕ} (now : Standing) (going : now .stopped ≡ false) (h : at < length input) where
-  pub answered-left : {q : Access} (o : Outcome Answer World) → recorded q ≡ readRecord (drop at input) (now .expected) → o ≡ access (now .world) q →
-      Put out end (answered now o .text) end′ out′ → Left whole before input at now end out → Left whole before input (at + 20) (answered now o .standing) end′ out′
-  answered-left o e a p l = one-less (answered now o) h going (rw (← e, a)) l p
+  pub answered-left : {q : Access} (p : PerformedOn) → recorded q ≡ readRecord (drop at input) (now .expected) → p ≡ performed now q →
+      Written out end (lineText (now .expected) (p .answer .number) (p .answer .v) (p .answer .x)) end′ out′ →
+      Left whole before input at now end out → Left whole before input (at + 20) (p .standing) end′ out′
+  answered-left {q} p e a t l = rw a (one-less (answered now (access (now .world) q)) h going (rw (← e)) l (rw a at t))
 
   pub refused-left : (n : ℕ) → refused n ≡ readRecord (drop at input) (now .expected) →
-      Put out end (logText n (now .count)) end′ out′ → Left whole before input at now end out → Played whole before end′ out′ (logged now n .standing)
+      Written out end (logText n (now .count)) end′ out′ → Left whole before input at now end out → Played whole before end′ out′ (logged now n .standing)
   refused-left n e p l =
       nothing-left (replay-stopped (logged now n .standing) (drop (at + 20) input) refl) (one-less (logged now n) h going (rw (← e)) l p)
 
 -- the refusal's number is the reader's
-pub read-refused : {read : Read} {n m : ℕ} → read ≡ Refused m → n ≡ readingNumber (readOf read) → refused n ≡ readOf read
+pub read-refused : {read : Read} {n m : ℕ} → read ≡ Refused m → n ≡ readingNumber (readAs read) → refused n ≡ readAs read
 read-refused t e = rw (e, t)
