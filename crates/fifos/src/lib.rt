@@ -154,9 +154,10 @@ impl Fifos {
             };
         }
         each[i] = fifo.rest();
+        let entry = fifo.oldest();
         Taken {
             fifos: Fifos { each: each },
-            entry: fifo.oldest(),
+            entry: entry,
             some: true,
         }
     }
