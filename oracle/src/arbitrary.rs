@@ -9,7 +9,8 @@ use crate::rng::Rng;
 use crate::settings::Settings;
 use crate::transfer::{Running, Transfer, SHARED_LENGTH};
 
-/// A sound record with a small window.
+/// A sound record with a small window. A further part draws from a generator of its own, or the
+/// stored records behind the first one would change.
 pub fn sound_card(rng: &mut Rng) -> Card {
     let settings = sound_settings(rng);
     Card {

@@ -59,7 +59,7 @@ pub fn fresh(settings: Settings) -> (u8, Card) {
 
 impl Card {
     /// "A fresh card has empty FIFOs and all else 0, clear or idle."
-    fn cleared(settings: Settings) -> Card {
+    pub fn cleared(settings: Settings) -> Card {
         Card {
             settings,
             fifos: vec![VecDeque::new(); FIFOS],

@@ -13,6 +13,7 @@ mod programs;
 pub mod refusal;
 pub mod replay;
 pub mod rng;
+mod seeds;
 pub mod settings;
 pub mod source;
 pub mod stored;

@@ -2,13 +2,22 @@
 
 pub struct Rng(u64);
 
+/// What the state goes on by with each number.
+const STEP: u64 = 0x9E37_79B9_7F4A_7C15;
+
 impl Rng {
     pub fn new(seed: u64) -> Rng {
         Rng(seed)
     }
 
+    /// The generator of a seed behind so many of its numbers. What draws from a place of its own
+    /// is not moved by what is drawn before.
+    pub fn after(seed: u64, numbers: u64) -> Rng {
+        Rng(seed.wrapping_add(STEP.wrapping_mul(numbers)))
+    }
+
     pub fn number(&mut self) -> u64 {
-        self.0 = self.0.wrapping_add(0x9E37_79B9_7F4A_7C15);
+        self.0 = self.0.wrapping_add(STEP);
         let mut z = self.0;
         z = (z ^ z >> 30).wrapping_mul(0xBF58_476D_1CE4_E5B9);
         z = (z ^ z >> 27).wrapping_mul(0x94D0_49BB_1331_11EB);

@@ -59,13 +59,18 @@ pub fn check(crates: &Path) -> Result<String, String> {
     }
 }
 
-/// The lists of accesses among the stored vectors that are not among these files.
+/// The vector files that this program wrote, and that are not among these files.
 fn stale(crates: &Path, files: &[Stored]) -> io::Result<Vec<String>> {
     let mut found = Vec::new();
     for entry in fs::read_dir(crates.join(vectors::FOLDER))? {
-        let name = entry?.file_name().to_string_lossy().into_owned();
-        let path = format!("{}/{name}", vectors::FOLDER);
-        if vectors::is_run(&name) && !files.iter().any(|file| file.path == path) {
+        let entry = entry?;
+        let path = format!(
+            "{}/{}",
+            vectors::FOLDER,
+            entry.file_name().to_string_lossy()
+        );
+        let among = files.iter().any(|file| file.path == path);
+        if !among && vectors::is_written(&fs::read(entry.path())?) {
             found.push(path);
         }
     }

@@ -3,10 +3,8 @@ ghost use mathlib.Core.Path.{_≡_};
 ghost use mathlib.Core.List.{[], _∷_};
 ghost use Prim.Native.Nat.{_<_};
 ghost use Rattle.model.specs.Choice.{if_then_else_};
-ghost use Rattle.model.specs.Checks.{refusal, _for_};
+ghost use Rattle.model.specs.Checks.{refusal, _for_, misplaced, nonzero};
 ghost use Rattle.model.specs.Sides.{sideOf, other, notBy};
-ghost use Rattle.model.specs.State.{misplaced};
-ghost use Rattle.model.specs.Accesses.{nonzero};
 
 // "Kind, side and selector S are bytes; A, B, C, V and X are 32-bit numbers."
 pub struct Access {
@@ -23,6 +21,16 @@ pub enum Answer {
     Done(u32, u32),
     Refused(u8),
 }
+
+// "Side 0 is the host, side 1 the local processor."
+pub const HOST: u8 = 0;
+
+pub const LOCAL: u8 = 1;
+
+// "16,384 bytes of shared memory", and the number of PCI addresses.
+pub const SHARED_LENGTH: u64 = 16384;
+
+pub const PCI_LENGTH: u64 = 4294967296;
 
 // "Numbers a caller sees": one name for each refusal.
 pub const UNFIT: u8 = 1;
@@ -58,7 +66,7 @@ pub const ZERO_BYTE: u8 = 23;
 pub fn other_side(side: u8) -> u8
     ensures { λ r. ⌜ (sideOf r ≡ other (sideOf side)) × (r < 2) ⌝ }
 {
-    if side == 0 { 1 } else { 0 }
+    if side == HOST { LOCAL } else { HOST }
 }
 
 // A numbered check before later ones: its number where its cause holds, else what they gave.
@@ -72,7 +80,11 @@ pub fn when(number: u8, cause: bool, later: u8) -> u8
 pub fn wrong_side(may: u8, side: u8) -> bool
     ensures { λ r. ⌜ r ≡ notBy (sideOf may) (sideOf side) ⌝ }
 {
-    if may == 0 { side != 0 } else { side == 0 }
+    if may == HOST {
+        side != HOST
+    } else {
+        side == HOST
+    }
 }
 
 // Cause 3: one of the fields that a kind does not use is not zero. A caller hands in 0 for each field that the kind uses.

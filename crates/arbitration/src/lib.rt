@@ -1,45 +1,49 @@
-// Document 01, "FIFOs and flags": a pair of arbitration flags by value.
+// Document 01, "FIFOs and flags": the four pairs of arbitration flags by value.
 ghost use mathlib.Core.Path.{_≡_};
-ghost use mathlib.Core.Bool.{_&&_};
 ghost use mathlib.Core.List.{map};
-ghost use lib.ListN.{length};
-ghost use lib.Dec.{eqb};
-ghost use Rattle.model.specs.Choice.{every};
+ghost use Prim.Native.Nat.{_<_};
 ghost use Rattle.model.specs.Sides.{sideOf, other};
-ghost use Rattle.model.specs.State.{flagsSound};
-ghost use Rattle.model.specs.Changes.{flag, withFlag};
-ghost use Rattle.arbitration.specs.Bridge.{flagsAs};
+ghost use Rattle.model.specs.Arbitration.{pairSound, arbitrationSound, freshArbitration, pairOf, flag, withFlag, withFlagOf};
+ghost use Rattle.arbitration.specs.Bridge.{pairAs, arbitrationAs};
 
-pub struct Flags {
+pub struct Pair {
     pub host: bool,
     pub local: bool,
 }
 
-impl Flags {
+pub struct Arbitration {
+    pub pairs: [Pair; 4],
+}
+
+impl Pair {
     // "No pair has both flags set."
-    pub fn sound(self) -> bool
-        ensures { λ r. ⌜ r ≡ flagsSound (flagsAs self) ⌝ }
+    fn sound(self) -> bool
+        ensures { λ r. ⌜ r ≡ pairSound (pairAs self) ⌝ }
     {
         !(self.host & self.local)
     }
 
     // the flag of the side other than this one
-    pub fn other(self, side: u8) -> bool
-        ensures { λ r. ⌜ r ≡ flag (other (sideOf side)) (flagsAs self) ⌝ }
+    fn other(self, side: u8) -> bool
+        ensures { λ r. ⌜ r ≡ flag (other (sideOf side)) (pairAs self) ⌝ }
     {
-        if side == 0 { self.local } else { self.host }
+        if side == access::HOST {
+            self.local
+        } else {
+            self.host
+        }
     }
 
-    pub fn with(self, side: u8, set: bool) -> Flags
-        ensures { λ r. ⌜ flagsAs r ≡ withFlag (sideOf side) set (flagsAs self) ⌝ }
+    fn with(self, side: u8, set: bool) -> Pair
+        ensures { λ r. ⌜ pairAs r ≡ withFlag (sideOf side) set (pairAs self) ⌝ }
     {
-        if side == 0 {
-            Flags {
+        if side == access::HOST {
+            Pair {
                 host: set,
                 local: self.local,
             }
         } else {
-            Flags {
+            Pair {
                 host: self.host,
                 local: set,
             }
@@ -47,13 +51,53 @@ impl Flags {
     }
 }
 
-// The four pairs of a card; there are four, since the array has so many.
-pub fn all_sound(flags: [Flags; 4]) -> bool
-    ensures { λ r. ⌜ r ≡ (eqb (length (map flagsAs flags)) 4 && every flagsSound (map flagsAs flags)) ⌝ }
+// There are four, since the array has so many.
+fn all_sound(pairs: [Pair; 4]) -> bool
+    ensures { λ r. ⌜ r ≡ arbitrationSound (map pairAs pairs) ⌝ }
 {
-    let f0 = flags[0];
-    let f1 = flags[1];
-    let f2 = flags[2];
-    let f3 = flags[3];
-    f0.sound() & (f1.sound() & (f2.sound() & f3.sound()))
+    let p0 = pairs[0];
+    let p1 = pairs[1];
+    let p2 = pairs[2];
+    let p3 = pairs[3];
+    p0.sound() & (p1.sound() & (p2.sound() & p3.sound()))
+}
+
+impl Arbitration {
+    pub fn fresh() -> Arbitration
+        ensures { λ r. ⌜ arbitrationAs r ≡ freshArbitration ⌝ }
+    {
+        let pair = Pair {
+            host: false,
+            local: false,
+        };
+        Arbitration { pairs: [pair; 4] }
+    }
+
+    pub fn sound(self) -> bool
+        ensures { λ r. ⌜ r ≡ arbitrationSound (arbitrationAs self) ⌝ }
+    {
+        let pairs = self.pairs;
+        all_sound(pairs)
+    }
+
+    // The other side's flag of a pair.
+    pub fn other(self, side: u8, i: usize) -> bool
+        requires { ⌜ i < 4 ⌝ }
+        ensures { λ r. ⌜ r ≡ flag (other (sideOf side)) (pairOf (arbitrationAs self) i) ⌝ }
+    {
+        let pairs = self.pairs;
+        let pair = pairs[i];
+        pair.other(side)
+    }
+
+    // A side's flag of a pair, set or clear.
+    pub fn with(self, side: u8, i: usize, set: bool) -> Arbitration
+        requires { ⌜ i < 4 ⌝ }
+        ensures { λ r. ⌜ arbitrationAs r ≡ withFlagOf (sideOf side) i set (arbitrationAs self) ⌝ }
+    {
+        let mut pairs = self.pairs;
+        let pair = pairs[i];
+        pairs[i] = pair.with(side, set);
+        Arbitration { pairs: pairs }
+    }
 }

@@ -1,6 +1,6 @@
 // Document 01, "Mailboxes": bays by their index and by the label on them.
 ghost use mathlib.Core.Path.{_≡_};
-ghost use Rattle.bays.specs.Labels.{labelAt};
+ghost use Rattle.bays.specs.Bridge.{labelAt};
 
 // "Byte 0 is a bay index, 0 to 23."
 pub struct BayIndex(pub u8);

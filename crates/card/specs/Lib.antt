@@ -1,3 +1,2 @@
 pub mod Bridge
-pub mod BridgeLaws
-pub mod Did
+pub mod Laws

@@ -1,36 +1,33 @@
-// The card's record by value: when it is sound, the fresh one, its reset, and what an access gives.
+// The card's record by value: when it is sound, the fresh one, one part of it replaced, its reset, and what an access gives.
 ghost use mathlib.Core.Path.{_≡_};
 ghost use mathlib.Core.List.{List};
 ghost use Prim.Native.Nat.{ℕ};
-ghost use Rattle.model.specs.Sides.{sideOf};
-ghost use Rattle.model.specs.State.{sound, fresh, freshCard};
-ghost use Rattle.model.specs.Changes.{dmaIs, withInterrupts, onRegister, apply};
+ghost use Rattle.model.specs.State.{sound, withFifos, withArbitration, withMailboxes, withInterrupts, withTransfer, fresh, freshCard};
 ghost use Rattle.model.specs.Accesses as model;
 ghost use Rattle.access.specs.declared.Answer.the-variants.{Done, Refused};
-ghost use Rattle.events.specs.Registers.{raisedAll};
 ghost use Rattle.settings.specs.Bridge.{settingsAs};
-ghost use Rattle.dma.specs.Bridge.{dmaAs};
-ghost use Rattle.interrupts.specs.Bridge.{raisedBoth};
-ghost use Rattle.card.specs.Bridge.{stateOf, newCardAs};
-ghost use Rattle.card.specs.Did.{Did};
+ghost use Rattle.fifos.specs.Bridge.{fifosAs};
+ghost use Rattle.arbitration.specs.Bridge.{arbitrationAs};
+ghost use Rattle.mailboxes.specs.Bridge.{mailboxesAs};
+ghost use Rattle.interrupts.specs.Bridge.{interruptsAs};
+ghost use Rattle.transfer.specs.Bridge.{transferAs};
+ghost use Rattle.card.specs.Bridge.{stateAs, newCardAs, Did};
 use access::Access;
 use access::Answer;
-use arbitration::Flags;
-use dma::Dma;
-use events::EventSet;
-use events::Register;
-use fifo::Fifo;
+use arbitration::Arbitration;
+use fifos::Fifos;
 use interrupts::Interrupts;
 use mailboxes::Mailboxes;
 use settings::Settings;
+use transfer::Transfer;
 
 pub struct Card {
     pub settings: Settings,
-    pub fifos: [Fifo; 4],
-    pub flags: [Flags; 4],
+    pub fifos: Fifos,
+    pub arbitration: Arbitration,
     pub mailboxes: Mailboxes,
     pub interrupts: Interrupts,
-    pub dma: Dma,
+    pub transfer: Transfer,
 }
 
 // What a caller who asks for a card gets: 0 or a refusal, and the card.
@@ -49,47 +46,34 @@ pub struct Outcome {
 
 // "A card record is sound if its settings pass, each FIFO .., no pair .., mailbox data is below 65,536, .."
 pub fn sound(card: Card) -> bool
-    ensures { λ r. ⌜ r ≡ sound (stateOf card) ⌝ }
+    ensures { λ r. ⌜ r ≡ sound (stateAs card) ⌝ }
 {
     let settings = card.settings;
     let fifos = card.fifos;
-    let flags = card.flags;
+    let arbitration = card.arbitration;
     let mailboxes = card.mailboxes;
     let interrupts = card.interrupts;
-    let dma = card.dma;
+    let transfer = card.transfer;
     settings.pass()
-        & (fifo::all_sound(fifos)
-            & (arbitration::all_sound(flags)
-                & (mailboxes.sound() & (interrupts.sound() & dma.sound()))))
+        & (fifos.sound()
+            & (arbitration.sound() & (mailboxes.sound() & (interrupts.sound() & transfer.sound()))))
 }
 
 // THE FRESH CARD
 
-// "A fresh card has empty FIFOs and all else 0, clear or idle."
-fn cleared(settings: Settings) -> Card
-    ensures { λ r. ⌜ stateOf r ≡ fresh (settingsAs settings) ⌝ }
-{
-    let f = Fifo::empty();
-    let pair = Flags {
-        host: false,
-        local: false,
-    };
-    let mailboxes = Mailboxes {
-        hldata: 0,
-        lhdata: 0,
-        written: false,
-    };
-    let interrupts = Interrupts {
-        hint: Register::clear(),
-        lint: Register::clear(),
-    };
-    Card {
-        settings: settings,
-        fifos: [f; 4],
-        flags: [pair; 4],
-        mailboxes: mailboxes,
-        interrupts: interrupts,
-        dma: Dma::Idle,
+impl Card {
+    // The record alone: "A fresh card has empty FIFOs and all else 0, clear or idle."
+    fn fresh(settings: Settings) -> Card
+        ensures { λ r. ⌜ stateAs r ≡ fresh (settingsAs settings) ⌝ }
+    {
+        Card {
+            settings: settings,
+            fifos: Fifos::fresh(),
+            arbitration: Arbitration::fresh(),
+            mailboxes: Mailboxes::fresh(),
+            interrupts: Interrupts::fresh(),
+            transfer: Transfer::fresh(),
+        }
     }
 }
 
@@ -100,58 +84,66 @@ pub fn fresh(settings: Settings) -> NewCard
     if settings.pass() {
         return NewCard {
             number: 0,
-            card: cleared(settings),
+            card: Card::fresh(settings),
         };
     }
-    let zero = Settings {
-        base: 0,
-        length: 0,
-        lo: 0,
-        hi: 0,
-    };
     NewCard {
         number: access::UNFIT,
-        card: cleared(zero),
+        card: Card::fresh(Settings::zero()),
     }
 }
 
-// CHANGES OF THE RECORD
+// ONE PART REPLACED
 
 impl Card {
-    pub fn raise(self, side: u8, events: EventSet) -> Card
-        ensures { λ r. ⌜ stateOf r ≡ onRegister (sideOf side) (raisedAll (events .0)) (stateOf self) ⌝ }
+    pub fn with_fifos(self, fifos: Fifos) -> Card
+        ensures { λ r. ⌜ stateAs r ≡ withFifos (fifosAs fifos) (stateAs self) ⌝ }
     {
-        let interrupts = self.interrupts;
         let mut card = self;
-        card.interrupts = interrupts.raise(side, events);
+        card.fifos = fifos;
         card
     }
 
-    // "In both registers."
-    pub fn raise_both(self, events: EventSet) -> Card
-        ensures { λ r. ⌜ stateOf r ≡ withInterrupts (raisedBoth (events .0) (stateOf self .interrupts)) (stateOf self) ⌝ }
+    pub fn with_arbitration(self, arbitration: Arbitration) -> Card
+        ensures { λ r. ⌜ stateAs r ≡ withArbitration (arbitrationAs arbitration) (stateAs self) ⌝ }
     {
-        let interrupts = self.interrupts;
         let mut card = self;
-        card.interrupts = interrupts.raise_both(events);
+        card.arbitration = arbitration;
         card
     }
 
-    pub fn with_dma(self, dma: Dma) -> Card
-        ensures { λ r. ⌜ stateOf r ≡ apply (dmaIs (dmaAs dma)) (stateOf self) ⌝ }
+    pub fn with_mailboxes(self, mailboxes: Mailboxes) -> Card
+        ensures { λ r. ⌜ stateAs r ≡ withMailboxes (mailboxesAs mailboxes) (stateAs self) ⌝ }
+    {
+        let mut card = self;
+        card.mailboxes = mailboxes;
+        card
+    }
+
+    pub fn with_interrupts(self, interrupts: Interrupts) -> Card
+        ensures { λ r. ⌜ stateAs r ≡ withInterrupts (interruptsAs interrupts) (stateAs self) ⌝ }
+    {
+        let mut card = self;
+        card.interrupts = interrupts;
+        card
+    }
+
+    // An enum is not stored to a field: the record is written anew.
+    pub fn with_transfer(self, transfer: Transfer) -> Card
+        ensures { λ r. ⌜ stateAs r ≡ withTransfer (transferAs transfer) (stateAs self) ⌝ }
     {
         let settings = self.settings;
         let fifos = self.fifos;
-        let flags = self.flags;
+        let arbitration = self.arbitration;
         let mailboxes = self.mailboxes;
         let interrupts = self.interrupts;
         Card {
             settings: settings,
             fifos: fifos,
-            flags: flags,
+            arbitration: arbitration,
             mailboxes: mailboxes,
             interrupts: interrupts,
-            dma: dma,
+            transfer: transfer,
         }
     }
 }
@@ -189,5 +181,5 @@ pub fn reset(card: Card, q: Access) -> Outcome
         return card.refused(n);
     }
     let settings = card.settings;
-    cleared(settings).done(0, 0)
+    Card::fresh(settings).done(0, 0)
 }

@@ -1,10 +1,15 @@
 -- The words that the stored equations are written in, and what each kind of equation says.
 use mathlib.Core.Path.{_≡_}
-use mathlib.Core.Bool.{Bool}
+use mathlib.Core.Bool.{Bool, false}
 use mathlib.Core.List.{List, [], _∷_, _++_, map}
 use Prim.Native.Nat.{ℕ}
 use lib.ListN.{replicate}
-use Rattle.model.specs.State.{Settings, Flags, Mailboxes, Interrupts, Transfer, Dma, State, World, NewCard, sound, freshCard}
+use Rattle.model.specs.Settings.{Settings}
+use Rattle.model.specs.Arbitration.{Pair}
+use Rattle.model.specs.Mailboxes.{Mailboxes}
+use Rattle.model.specs.Interrupts.{Interrupts}
+use Rattle.model.specs.Transfer.{Request, idle}
+use Rattle.model.specs.State.{State, World, NewCard, sound, freshCard}
 use Rattle.model.specs.Runs.{Entry, run}
 use Rattle.model.specs.Accesses.{Access, Answer, access}
 use Rattle.model.specs.Source.{Memory, Part, source}
@@ -13,20 +18,22 @@ use Rattle.model.specs.Pins.{Decoded, decode}
 abbrev pub settings : (base length lo hi : ℕ) → Settings
 settings base length lo hi = record { base = base; length = length; lo = lo; hi = hi }
 
-abbrev pub flags : (ofHost ofLocal : Bool) → Flags
-flags h l = record { ofHost = h; ofLocal = l }
+abbrev pub pair : (ofHost ofLocal : Bool) → Pair
+pair h l = record { ofHost = h; ofLocal = l }
 
-abbrev pub mail : (hldata lhdata : ℕ) → (written : Bool) → Mailboxes
-mail hl lh written = record { hldata = hl; lhdata = lh; written = written }
+abbrev pub mail : (hldata lhdata : ℕ) → (lhwritten : Bool) → Mailboxes
+mail hl lh written = record { hldata = hl; lhdata = lh; lhwritten = written }
 
 abbrev pub interrupts : (hintEnables hintStatus lintEnables lintStatus : ℕ) → Interrupts
 interrupts he hs le ls = record { hint = record { enables = he; status = hs }; lint = record { enables = le; status = ls } }
 
-abbrev pub transfer : (direction shared pci size : ℕ) → Transfer
-transfer d a b c = record { direction = d; shared = a; pci = b; size = c }
+abbrev pub request : (direction shared pci size : ℕ) → Request
+request d a b c = record { direction = d; shared = a; pci = b; size = c }
 
-abbrev pub card : Settings → List (List ℕ) → List Flags → Mailboxes → Interrupts → Dma → State
-card s f g m i d = record { settings = s; fifos = f; flags = g; mailboxes = m; interrupts = i; dma = d }
+-- A card that nobody has used, written out here once more: stored cards are changes of it, each naming the parts that differ.
+abbrev pub untouched : Settings → State
+untouched s =
+    record { settings = s; fifos = [] ∷ [] ∷ [] ∷ [] ∷ []; arbitration = pair false false ∷ pair false false ∷ pair false false ∷ pair false false ∷ []; mailboxes = mail 0 0 false; interrupts = interrupts 0 0 0 0; transfer = idle }
 
 abbrev pub world : State → (shared window : List ℕ) → World
 world c shared window = record { card = c; shared = shared; window = window }
@@ -43,20 +50,20 @@ part m offset count = record { memory = m; offset = offset; count = count }
 abbrev pub RunAgrees : World → List (Entry Access Answer) → World → Type 0
 RunAgrees w entries last = run access w (map (λ e. e .access) entries) ≡ record { entries = entries; world = last }
 
--- a request for a source, of zeroed memories of these lengths, and the part expected
+-- a source asked for, of zeroed memories of these lengths, and the part expected
 pub record SourceCase : Type 0 where
   pub settings : Settings
   pub sharedLength : ℕ
   pub windowLength : ℕ
-  pub transfer : Transfer
+  pub request : Request
   pub expected : Part
 
-abbrev pub sourceCase : Settings → (sharedLength windowLength : ℕ) → Transfer → Part → SourceCase
-sourceCase s m n t p = record { settings = s; sharedLength = m; windowLength = n; transfer = t; expected = p }
+abbrev pub sourceCase : Settings → (sharedLength windowLength : ℕ) → Request → Part → SourceCase
+sourceCase s m n r p = record { settings = s; sharedLength = m; windowLength = n; request = r; expected = p }
 
 abbrev pub SourcesAgree : List SourceCase → Type 0
 SourcesAgree cases =
-    map (λ c. source (c .settings) (replicate (c .sharedLength) 0) (replicate (c .windowLength) 0) (c .transfer)) cases ≡ map (λ c. c .expected) cases
+    map (λ c. source (c .settings) (replicate (c .sharedLength) 0) (replicate (c .windowLength) 0) (c .request)) cases ≡ map (λ c. c .expected) cases
 
 -- width mode, pins and data, and what they decode to
 pub record PinCase : Type 0 where

@@ -5,15 +5,15 @@ ghost use Prim.Native.Nat.{ℕ};
 ghost use lib.ListN.{length};
 ghost use Rattle.model.specs.Accesses.{fit, access};
 ghost use Rattle.access.specs.declared.Answer.the-variants.{Refused};
-ghost use Rattle.access.specs.Words.{accessOf, answerOf};
-ghost use Rattle.card.specs.Did.{worldOf, outcomeOf};
+ghost use Rattle.access.specs.Bridge.{accessAs, answerAs};
+ghost use Rattle.card.specs.Bridge.{worldAs, outcomeAs};
 use access::Access;
 use card::Card;
 use card::Outcome;
 
 // The contrary of cause 1: "record not sound, shared memory not 16,384 bytes, or window not of the set length".
 fn fits(card: Card, shared: usize, window: usize) -> bool
-    ensures { λ r. ⌜ ((m w : List ℕ) → shared ≡ length m → window ≡ length w → r ≡ fit (worldOf card m w)) ⌝ }
+    ensures { λ r. ⌜ ((m w : List ℕ) → shared ≡ length m → window ≡ length w → r ≡ fit (worldAs card m w)) ⌝ }
 {
     let sound = card::sound(card);
     let settings = card.settings;
@@ -23,8 +23,8 @@ fn fits(card: Card, shared: usize, window: usize) -> bool
 // "An access lends both memories and gets the new record back by value." A refusal hands back the very record and leaves
 // both memories; what is done is answered by `Done`.
 pub fn access(card: Card, shared: &mut [u8], window: &mut [u8], q: Access) -> Outcome
-    ensures { λ r. ⌜ outcomeOf r (now (shared .exit)) (now (window .exit)) ≡ access (worldOf card (now (shared .entry)) (now (window .entry))) (accessOf q) ⌝ }
-    ensures { λ r. ⌜ ((answerOf (r .answer) .number ≡ 0 → ⊥) → r .card ≡ card) ⌝ }
+    ensures { λ r. ⌜ outcomeAs r (now (shared .exit)) (now (window .exit)) ≡ access (worldAs card (now (shared .entry)) (now (window .entry))) (accessAs q) ⌝ }
+    ensures { λ r. ⌜ ((answerAs (r .answer) .number ≡ 0 → ⊥) → r .card ≡ card) ⌝ }
     ensures { λ r. ⌜ (r .answer ≡ Refused 0 → ⊥) ⌝ }
 {
     if !fits(card, shared.len(), window.len()) {
@@ -42,15 +42,15 @@ pub fn access(card: Card, shared: &mut [u8], window: &mut [u8], q: Access) -> Ou
         4 => memory_access::window_write(card, window, q),
         5 => fifo_access::take(card, q),
         6 => fifo_access::put(card, q),
-        7 => flag_access::claim(card, q),
-        8 => flag_access::release(card, q),
+        7 => arbitration_access::claim(card, q),
+        8 => arbitration_access::release(card, q),
         9 => mailbox_access::write(card, q),
         10 => mailbox_access::read(card, q),
         11 => interrupt_access::read(card, q),
         12 => interrupt_access::write(card, q),
         13 => interrupt_access::line(card, q),
-        14 => transfer_start::start(card, q),
-        15 => transfer_step::step(card, shared, window, q),
+        14 => transfer_access::start(card, q),
+        15 => transfer_access::step(card, shared, window, q),
         16 => interrupt_access::external_pin(card, q),
         17..=255 => card.refused(access::UNKNOWN),
     }

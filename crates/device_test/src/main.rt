@@ -5,16 +5,20 @@ ghost use Prim.Native.Nat.{_<_};
 ghost use lib.ListN.{length};
 use access::Access;
 use access::Answer;
-use arbitration::Flags;
+use arbitration::Arbitration;
+use arbitration::Pair;
 use card::Card;
-use dma::Dma;
-use dma::Transfer;
 use events::EventSet;
 use events::Register;
-use fifo::Fifo;
+use fifos::Fifo;
+use fifos::Fifos;
 use interrupts::Interrupts;
 use mailboxes::Mailboxes;
 use settings::Settings;
+use testing::number_at;
+use testing::show;
+use transfer::Request;
+use transfer::Transfer;
 
 // WHAT A CASE SAYS: numbers of four bytes, least byte first
 
@@ -27,15 +31,6 @@ struct Head {
     window: u32,
     seed: u32,
     count: u32,
-}
-
-// The number with this place in a list of numbers; 0 behind its end.
-fn number_at(bytes: &[u8], place: u8) -> u32 {
-    let at = 4 * (place as usize);
-    if bytes.len() < at + 4 {
-        return 0;
-    }
-    lanes::read_dword(bytes, at, 0)
 }
 
 fn head_of(whole: bool, bytes: &[u8]) -> Head {
@@ -58,8 +53,8 @@ fn head_of(whole: bool, bytes: &[u8]) -> Head {
 
 fn read_head() -> Head {
     let mut bytes = [0u8; 36];
-    let n = io::read_full(0, &mut bytes);
-    head_of(n == 36, &bytes)
+    let whole = testing::read_bytes(&mut bytes);
+    head_of(whole, &bytes)
 }
 
 fn access_of(bytes: &[u8]) -> Access {
@@ -76,7 +71,7 @@ fn access_of(bytes: &[u8]) -> Access {
 
 fn read_access() -> Access {
     let mut bytes = [0u8; 16];
-    io::read_full(0, &mut bytes);
+    testing::read_bytes(&mut bytes);
     access_of(&bytes)
 }
 
@@ -95,12 +90,12 @@ fn fifo_of(bytes: &[u8]) -> Fifo {
 
 fn read_fifo() -> Fifo {
     let mut bytes = [0u8; 132];
-    io::read_full(0, &mut bytes);
+    testing::read_bytes(&mut bytes);
     fifo_of(&bytes)
 }
 
-fn flags_of(bits: u32) -> Flags {
-    Flags {
+fn pair_of(bits: u32) -> Pair {
+    Pair {
         host: bits % 2 == 1,
         local: bits / 2 % 2 == 1,
     }
@@ -113,31 +108,31 @@ fn register_of(enables: u32, status: u32) -> Register {
     }
 }
 
-fn dma_of(bytes: &[u8]) -> Dma {
+fn transfer_of(bytes: &[u8]) -> Transfer {
     if number_at(bytes, 11) == 0 {
-        return Dma::Idle;
+        return Transfer::Idle;
     }
-    let transfer = Transfer {
+    let request = Request {
         direction: (number_at(bytes, 12) % 256) as u8,
         shared: number_at(bytes, 13),
         pci: number_at(bytes, 14),
         size: number_at(bytes, 15),
     };
-    Dma::Running(transfer, number_at(bytes, 16))
+    Transfer::Running(request, number_at(bytes, 16))
 }
 
-// A record, whose bytes are those behind the FIFOs: four numbers of flags, three of mailboxes, four of registers, six of the transfer.
-fn card_of(settings: Settings, fifos: [Fifo; 4], bytes: &[u8]) -> Card {
-    let flags = [
-        flags_of(number_at(bytes, 0)),
-        flags_of(number_at(bytes, 1)),
-        flags_of(number_at(bytes, 2)),
-        flags_of(number_at(bytes, 3)),
+// A record, whose bytes are those behind the FIFOs: four numbers of pairs of flags, three of mailboxes, four of registers, six of the transfer.
+fn card_of(settings: Settings, each: [Fifo; 4], bytes: &[u8]) -> Card {
+    let pairs = [
+        pair_of(number_at(bytes, 0)),
+        pair_of(number_at(bytes, 1)),
+        pair_of(number_at(bytes, 2)),
+        pair_of(number_at(bytes, 3)),
     ];
     let mailboxes = Mailboxes {
         hldata: number_at(bytes, 4),
         lhdata: number_at(bytes, 5),
-        written: number_at(bytes, 6) == 1,
+        lhwritten: number_at(bytes, 6) == 1,
     };
     let interrupts = Interrupts {
         hint: register_of(number_at(bytes, 7), number_at(bytes, 8)),
@@ -145,21 +140,21 @@ fn card_of(settings: Settings, fifos: [Fifo; 4], bytes: &[u8]) -> Card {
     };
     Card {
         settings: settings,
-        fifos: fifos,
-        flags: flags,
+        fifos: Fifos { each: each },
+        arbitration: Arbitration { pairs: pairs },
         mailboxes: mailboxes,
         interrupts: interrupts,
-        dma: dma_of(bytes),
+        transfer: transfer_of(bytes),
     }
 }
 
-fn read_record(settings: Settings) -> Card {
+fn read_card(settings: Settings) -> Card {
     let f0 = read_fifo();
     let f1 = read_fifo();
     let f2 = read_fifo();
     let f3 = read_fifo();
     let mut bytes = [0u8; 68];
-    io::read_full(0, &mut bytes);
+    testing::read_bytes(&mut bytes);
     card_of(settings, [f0, f1, f2, f3], &bytes)
 }
 
@@ -180,13 +175,6 @@ fn fill(memory: &mut [u8], seed: u64) {
 }
 
 // WHAT IT WRITES: lines of decimal numbers
-
-// A number, and the byte after it.
-fn show(n: u64, after: u8) {
-    let last = [after];
-    io::print_decimal(1, n);
-    io::write_all(1, &last);
-}
 
 fn show_answered(n: u8, v: u32, x: u32) {
     show(n as u64, b' ');
@@ -231,31 +219,33 @@ fn show_fifo(f: Fifo) {
     io::write_all(1, b"\n");
 }
 
-fn show_fifos(fifos: [Fifo; 4]) {
-    let f0 = fifos[0];
-    let f1 = fifos[1];
-    let f2 = fifos[2];
-    let f3 = fifos[3];
+fn show_fifos(fifos: Fifos) {
+    let each = fifos.each;
+    let f0 = each[0];
+    let f1 = each[1];
+    let f2 = each[2];
+    let f3 = each[3];
     show_fifo(f0);
     show_fifo(f1);
     show_fifo(f2);
     show_fifo(f3);
 }
 
-fn show_pair(pair: Flags, after: u8) {
+fn show_pair(pair: Pair, after: u8) {
     show(bit(pair.host), b' ');
     show(bit(pair.local), after);
 }
 
-fn show_flags(flags: [Flags; 4]) {
-    let f0 = flags[0];
-    let f1 = flags[1];
-    let f2 = flags[2];
-    let f3 = flags[3];
-    show_pair(f0, b' ');
-    show_pair(f1, b' ');
-    show_pair(f2, b' ');
-    show_pair(f3, b'\n');
+fn show_arbitration(arbitration: Arbitration) {
+    let pairs = arbitration.pairs;
+    let p0 = pairs[0];
+    let p1 = pairs[1];
+    let p2 = pairs[2];
+    let p3 = pairs[3];
+    show_pair(p0, b' ');
+    show_pair(p1, b' ');
+    show_pair(p2, b' ');
+    show_pair(p3, b'\n');
 }
 
 fn show_register(r: Register, after: u8) {
@@ -265,7 +255,7 @@ fn show_register(r: Register, after: u8) {
     show(status.0 as u64, after);
 }
 
-fn show_running(t: Transfer, moved: u32) {
+fn show_running(t: Request, moved: u32) {
     show(1, b' ');
     show(t.direction as u64, b' ');
     show(t.shared as u64, b' ');
@@ -274,10 +264,10 @@ fn show_running(t: Transfer, moved: u32) {
     show(moved as u64, b'\n');
 }
 
-fn show_dma(dma: Dma) {
-    match dma {
-        Dma::Idle => show(0, b'\n'),
-        Dma::Running(t, moved) => show_running(t, moved),
+fn show_transfer(transfer: Transfer) {
+    match transfer {
+        Transfer::Idle => show(0, b'\n'),
+        Transfer::Running(t, moved) => show_running(t, moved),
     }
 }
 
@@ -285,20 +275,20 @@ fn show_dma(dma: Dma) {
 fn show_card(card: Card) {
     let settings = card.settings;
     let fifos = card.fifos;
-    let flags = card.flags;
+    let arbitration = card.arbitration;
     let mail = card.mailboxes;
     let hint = card.interrupts.hint;
     let lint = card.interrupts.lint;
-    let dma = card.dma;
+    let transfer = card.transfer;
     show_settings(settings);
     show_fifos(fifos);
-    show_flags(flags);
+    show_arbitration(arbitration);
     show(mail.hldata as u64, b' ');
     show(mail.lhdata as u64, b' ');
-    show(bit(mail.written), b'\n');
+    show(bit(mail.lhwritten), b'\n');
     show_register(hint, b' ');
     show_register(lint, b'\n');
-    show_dma(dma);
+    show_transfer(transfer);
 }
 
 // A digest with one byte more.
@@ -320,31 +310,31 @@ fn digest(bytes: &[u8]) -> u64 {
 
 // Accesses, each with its answer.
 fn run_accesses(card: Card, shared: &mut [u8], window: &mut [u8], count: u32) -> Card {
-    let mut held = card;
+    let mut now = card;
     let mut left = count;
     while left > 0 {
         let q = read_access();
-        let outcome = device::access(held, shared, window, q);
+        let outcome = device::access(now, shared, window, q);
         let answer = outcome.answer;
         show_answer(answer);
-        held = outcome.card;
+        now = outcome.card;
         left -= 1;
     }
-    held
+    now
 }
 
-// A request for a source: the length and the digest of its part.
-fn run_request<'a>(settings: Settings, shared: &'a [u8], window: &'a [u8]) {
+// A source asked for: the length and the digest of its part.
+fn run_source<'a>(settings: Settings, shared: &'a [u8], window: &'a [u8]) {
     let q = read_access();
     let part = source::source(settings, shared, window, q.s, q.a, q.b, q.c);
     show(part.len() as u64, b' ');
     show(digest(part), b'\n');
 }
 
-fn run_requests<'a>(settings: Settings, shared: &'a [u8], window: &'a [u8], count: u32) {
+fn run_sources<'a>(settings: Settings, shared: &'a [u8], window: &'a [u8], count: u32) {
     let mut left = count;
     while left > 0 {
-        run_request(settings, shared, window);
+        run_source(settings, shared, window);
         left -= 1;
     }
 }
@@ -352,7 +342,7 @@ fn run_requests<'a>(settings: Settings, shared: &'a [u8], window: &'a [u8], coun
 // The card of a case: a given record, or a fresh card, whose number is written.
 fn first_card(what: u32, settings: Settings) -> Card {
     if what == 0 {
-        return read_record(settings);
+        return read_card(settings);
     }
     let new = card::fresh(settings);
     show(new.number as u64, b'\n');
@@ -373,7 +363,7 @@ fn run_on(head: Head, shared: &mut [u8], window: &mut [u8]) {
     fill(shared, head.seed as u64);
     fill(window, head.seed as u64 + 1);
     if head.what == 2 {
-        run_requests(settings, shared, window, head.count);
+        run_sources(settings, shared, window, head.count);
         return;
     }
     run_card(head.what, settings, head.count, shared, window);
@@ -396,7 +386,7 @@ fn run_case(shared: &mut [u8], window: &mut [u8]) -> bool {
 
 // The turns are counted, since nothing says that the input ends.
 fn run_all(shared: &mut [u8], window: &mut [u8]) {
-    let mut turns: u32 = 1000000;
+    let mut turns = testing::TURNS;
     while turns > 0 && run_case(shared, window) {
         turns -= 1;
     }

@@ -1,2 +1,2 @@
-pub mod Complement
-pub mod Registers
+pub mod Bridge
+pub mod Laws

@@ -1,15 +1,14 @@
 // Document 01, "Interrupt registers": sets of events, and a register by value.
 ghost use mathlib.Core.Path.{_≡_};
 ghost use mathlib.Core.Bool.{not};
-ghost use Prim.Native.Nat.{_+_, _*_, _/_, _<_};
+ghost use Prim.Native.Nat.{_/_, _<_};
 ghost use lib.Bits.{bitOr};
 ghost use lib.Dec.{eqb};
 ghost use Rattle.model.specs.Choice.{if_then_else_};
 ghost use Rattle.model.specs.Sides.{sideOf};
 ghost use Rattle.model.specs.Events.{common, without, within, storedMask, enableMask};
-ghost use Rattle.model.specs.State.{clearRegister, registerSound};
-ghost use Rattle.model.specs.Changes.{clearedIn, enablesIn};
-ghost use Rattle.events.specs.Registers.{registerAs, raisedAll, valueWith, activeWith};
+ghost use Rattle.model.specs.Interrupts.{freshRegister, registerSound, clearedIn, enablesIn, registerValue, active};
+ghost use Rattle.events.specs.Bridge.{registerAs, raisedAll};
 
 // A set of events: the bit at an event's position says whether it is in.
 pub struct EventSet(pub u32);
@@ -87,7 +86,7 @@ fn stored_mask(side: u8) -> EventSet
         .insert(DMA_COMPLETE)
         .insert(TARGET_ABORT)
         .insert(MASTER_ABORT);
-    if side == 0 {
+    if side == access::HOST {
         both.insert(EXTERNAL)
     } else {
         both
@@ -108,8 +107,8 @@ pub struct Register {
 }
 
 impl Register {
-    pub fn clear() -> Register
-        ensures { λ r. ⌜ registerAs r ≡ clearRegister ⌝ }
+    pub fn fresh() -> Register
+        ensures { λ r. ⌜ registerAs r ≡ freshRegister ⌝ }
     {
         Register {
             enables: NONE,
@@ -142,7 +141,7 @@ impl Register {
     // "Enables are bits 25 to 16, event status bits 9 to 0." `live` are the bits that follow FIFOs 1 and 3.
     pub fn value(self, live: EventSet) -> u32
         requires { ⌜ (self .enables .0 < 65536) × (self .status .0 < 65536) × (live .0 < 65536) ⌝ }
-        ensures { λ r. ⌜ r ≡ valueWith (live .0) (registerAs self) ⌝ }
+        ensures { λ r. ⌜ r ≡ registerValue (live .0) (registerAs self) ⌝ }
     {
         let enables = self.enables;
         let status = self.status.insert(live);
@@ -151,7 +150,7 @@ impl Register {
 
     // "A line is active exactly when some position has status and enable both set."
     pub fn line(self, live: EventSet) -> bool
-        ensures { λ r. ⌜ r ≡ activeWith (live .0) (registerAs self) ⌝ }
+        ensures { λ r. ⌜ r ≡ active (live .0) (registerAs self) ⌝ }
     {
         let enables = self.enables;
         self.status.insert(live).meets(enables)

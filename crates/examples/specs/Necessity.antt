@@ -9,7 +9,8 @@ use lib.Dec.{eqb}
 use borrow.Author.Tests.{eq-eqb}
 use Rattle.model.specs.Choice.{if_then_else_, every}
 use Rattle.model.specs.Lanes.{readDword, writeDword}
-use Rattle.model.specs.State.{Transfer, sound, freshCard}
+use Rattle.model.specs.Transfer.{Request}
+use Rattle.model.specs.State.{sound, freshCard}
 use Rattle.model.specs.Runs.{Entry, run}
 use Rattle.model.specs.Accesses.{Access, Answer, access}
 use Rattle.model.specs.TestLaws.{no-both}
@@ -34,7 +35,7 @@ code destinationUnwritten = 6
 code destinationUnread = 7
 
 -- the condition that a disturbing touch breaks
-abbrev pub broken : Transfer → Touch → Condition
+abbrev pub broken : Request → Touch → Condition
 broken t resetting = noReset
 broken t starting = noStart
 broken t readingInterrupts = noInterruptRead
@@ -44,7 +45,7 @@ broken t (writing p) = if inSource t p then sourceUnwritten else destinationUnwr
 broken t (reading p) = destinationUnread
 
 -- quiet but for this condition: whatever of the entry disturbs the transfer breaks just that
-abbrev pub quietBut : Condition → Transfer → Entry Access Answer → Bool
+abbrev pub quietBut : Condition → Request → Entry Access Answer → Bool
 quietBut c t e = every (λ touch. not (disturbs t touch) || eqb (code (broken t touch)) (code c)) (touches e)
 
 -- A CLAIM WITHOUT THE CONDITION IS FALSE

@@ -1,18 +1,14 @@
 // Document 01, "FIFOs and flags": take and put, kinds 5 and 6, each with its own checks first.
 ghost use mathlib.Core.Path.{_≡_};
-ghost use mathlib.Core.List.{List};
+ghost use mathlib.Core.List.{List, [], _∷_};
 ghost use Prim.Native.Nat.{ℕ, _<_};
-ghost use Rattle.model.specs.Checks.{refusal};
-ghost use Rattle.model.specs.Sides.{sideOf};
+ghost use Rattle.model.specs.Checks.{refusal, _for_, above};
+ghost use Rattle.model.specs.Sides.{sideOf, notBy};
 ghost use Rattle.model.specs.Events.{mask};
-ghost use Rattle.model.specs.State.{World};
-ghost use Rattle.model.specs.Changes.{fifo};
-ghost use Rattle.model.specs.FifosAndFlags.{putter, overflow, takenFrom, putInto};
+ghost use Rattle.model.specs.Fifos.{entriesOf, putter, taker};
+ghost use Rattle.model.specs.FifosAndFlags.{overflow, takenFrom, putInto};
 ghost use Rattle.model.specs.Accesses as model;
-ghost use Rattle.model.specs.Accesses.{rowOf};
-ghost use Rattle.access.specs.Words.{accessOf};
-ghost use Rattle.card.specs.Bridge.{stateOf, Effected};
-ghost use Rattle.card.specs.Did.{Did};
+ghost use Rattle.card.specs.Bridge.{stateAs, Effected, Did};
 use access::Access;
 use card::Card;
 use card::Outcome;
@@ -24,38 +20,30 @@ use events::EventSet;
 fn putter(fifo: u8) -> u8
     ensures { λ r. ⌜ sideOf r ≡ putter fifo ⌝ }
 {
-    if (fifo == 0) | (fifo == 3) { 1 } else { 0 }
+    if (fifo == 0) | (fifo == 3) {
+        access::LOCAL
+    } else {
+        access::HOST
+    }
 }
 
-fn take_refusal(q: Access) -> u8
-    ensures { λ r. ⌜ ((w : World) → r ≡ refusal (rowOf model.take w (accessOf q) .checks)) ⌝ }
+fn taker(fifo: u8) -> u8
+    ensures { λ r. ⌜ sideOf r ≡ taker fifo ⌝ }
 {
-    let taker = access::other_side(putter(q.s));
-    access::when(
-        access::UNUSED_FIELD,
-        access::nonzero(0, q.a, q.b, q.c),
-        access::when(
-            access::SELECTOR,
-            3 < q.s,
-            access::when(access::WRONG_SIDE, access::wrong_side(taker, q.side), 0),
-        ),
-    )
+    access::other_side(putter(fifo))
 }
 
-fn put_refusal(q: Access) -> u8
-    ensures { λ r. ⌜ ((w : World) → r ≡ refusal (rowOf model.put w (accessOf q) .checks)) ⌝ }
+// Kinds 5 and 6 differ in their unused fields, and in the one side that may.
+fn fifo_refusal(q: Access, unused: bool, may: u8) -> u8
+    ensures { λ r. ⌜ r ≡ refusal ((3 for unused) ∷ (4 for above 3 (q .s)) ∷ (5 for notBy (sideOf may) (sideOf (q .side))) ∷ []) ⌝ }
 {
     access::when(
         access::UNUSED_FIELD,
-        access::nonzero(0, q.a, 0, q.c),
+        unused,
         access::when(
             access::SELECTOR,
             3 < q.s,
-            access::when(
-                access::WRONG_SIDE,
-                access::wrong_side(putter(q.s), q.side),
-                0,
-            ),
+            access::when(access::WRONG_SIDE, access::wrong_side(may, q.side), 0),
         ),
     )
 }
@@ -65,16 +53,13 @@ fn put_refusal(q: Access) -> u8
 // "V entry, X 1; if empty V 4,294,967,295, X 0."
 fn take_entry(card: Card, i: usize) -> Outcome
     requires { ⌜ i < 4 ⌝ }
-    ensures { λ r. ⌜ Effected (takenFrom i (fifo (stateOf card) i)) card r ⌝ }
+    ensures { λ r. ⌜ Effected (takenFrom i (entriesOf (stateAs card .fifos) i)) card r ⌝ }
 {
-    let mut fifos = card.fifos;
-    let taken = fifos[i].take();
+    let fifos = card.fifos;
+    let taken = fifos.take(i);
     if taken.some {
-        let rest = taken.fifo;
-        fifos[i] = rest;
-        let mut changed = card;
-        changed.fifos = fifos;
-        return changed.done(taken.entry, 1);
+        let rest = taken.fifos;
+        return card.with_fifos(rest).done(taken.entry, 1);
     }
     card.done(taken.entry, 0)
 }
@@ -83,7 +68,7 @@ fn take_entry(card: Card, i: usize) -> Outcome
 fn lost_event(side: u8) -> EventSet
     ensures { λ r. ⌜ r .0 ≡ mask (overflow (sideOf side)) ⌝ }
 {
-    if side == 0 {
+    if side == access::HOST {
         events::PCI_OVERFLOW
     } else {
         events::LOCAL_OVERFLOW
@@ -93,18 +78,17 @@ fn lost_event(side: u8) -> EventSet
 // "X 1 held; X 0 lost to overflow", with its event in both registers.
 fn put_entry(card: Card, side: u8, i: usize, entry: u32) -> Outcome
     requires { ⌜ i < 4 ⌝ }
-    ensures { λ r. ⌜ Effected (putInto (sideOf side) i (fifo (stateOf card) i) entry) card r ⌝ }
+    ensures { λ r. ⌜ Effected (putInto (sideOf side) i (entriesOf (stateAs card .fifos) i) entry) card r ⌝ }
 {
-    let mut fifos = card.fifos;
-    let put = fifos[i].put(entry);
-    if put.kept {
-        let longer = put.fifo;
-        fifos[i] = longer;
-        let mut changed = card;
-        changed.fifos = fifos;
-        return changed.done(0, 1);
+    let fifos = card.fifos;
+    let put = fifos.put(i, entry);
+    if put.held {
+        let longer = put.fifos;
+        return card.with_fifos(longer).done(0, 1);
     }
-    card.raise_both(lost_event(side)).done(0, 0)
+    let interrupts = card.interrupts;
+    card.with_interrupts(interrupts.raise_both(lost_event(side)))
+        .done(0, 0)
 }
 
 // KINDS
@@ -113,7 +97,7 @@ fn put_entry(card: Card, side: u8, i: usize, entry: u32) -> Outcome
 pub fn take(card: Card, q: Access) -> Outcome
     ensures { λ r. ⌜ ((m w : List ℕ) → Did model.take card q m w r m w) ⌝ }
 {
-    let n = take_refusal(q);
+    let n = fifo_refusal(q, access::nonzero(0, q.a, q.b, q.c), taker(q.s));
     if n != 0 {
         return card.refused(n);
     }
@@ -124,7 +108,7 @@ pub fn take(card: Card, q: Access) -> Outcome
 pub fn put(card: Card, q: Access) -> Outcome
     ensures { λ r. ⌜ ((m w : List ℕ) → Did model.put card q m w r m w) ⌝ }
 {
-    let n = put_refusal(q);
+    let n = fifo_refusal(q, access::nonzero(0, q.a, 0, q.c), putter(q.s));
     if n != 0 {
         return card.refused(n);
     }

@@ -4,18 +4,14 @@ ghost use mathlib.Core.Bool.{true};
 ghost use mathlib.Core.List.{List, [], _∷_};
 ghost use Prim.Native.Nat.{ℕ};
 ghost use Rattle.model.specs.Choice.{if_then_else_};
-ghost use Rattle.model.specs.Checks.{refusal};
-ghost use Rattle.model.specs.Sides.{host, sideOf};
+ghost use Rattle.model.specs.Checks.{refusal, _for_, nonzero};
+ghost use Rattle.model.specs.Sides.{host, sideOf, notBy, local};
 ghost use Rattle.model.specs.Events.{external};
-ghost use Rattle.model.specs.State.{World, sound};
+ghost use Rattle.model.specs.State.{sound};
 ghost use Rattle.model.specs.Changes.{raised, done};
-ghost use Rattle.model.specs.Interrupts.{registerValue, registerWritten, active};
+ghost use Rattle.model.specs.InterruptRegisters.{registerWritten, liveOf, registerRead, lineActive};
 ghost use Rattle.model.specs.Accesses as model;
-ghost use Rattle.model.specs.Accesses.{rowOf};
-ghost use Rattle.access.specs.Words.{accessOf};
-ghost use Rattle.events.specs.Registers.{liveOf};
-ghost use Rattle.card.specs.Bridge.{stateOf, Effected};
-ghost use Rattle.card.specs.Did.{Did};
+ghost use Rattle.card.specs.Bridge.{stateAs, Effected, Did};
 use access::Access;
 use card::Card;
 use card::Outcome;
@@ -23,19 +19,18 @@ use events::EventSet;
 
 // "Bits 6 and 7 follow FIFOs 1 and 3."
 fn live(card: Card) -> EventSet
-    ensures { λ r. ⌜ r .0 ≡ liveOf (stateOf card) ⌝ }
+    ensures { λ r. ⌜ r .0 ≡ liveOf (stateAs card .fifos) ⌝ }
 {
-    let inbound = card.fifos[1];
-    let outbound = card.fifos[3];
-    let first = events::INBOUND_POST.only_if(!inbound.is_empty());
-    let second = events::OUTBOUND_POST.only_if(!outbound.is_empty());
-    first.insert(second)
+    let fifos = card.fifos;
+    let inbound = events::INBOUND_POST.only_if(!fifos.is_empty(1));
+    let outbound = events::OUTBOUND_POST.only_if(!fifos.is_empty(3));
+    inbound.insert(outbound)
 }
 
 // "Caller's own register."
 fn read_register(card: Card, side: u8) -> Outcome
-    requires { ⌜ sound (stateOf card) ≡ true ⌝ }
-    ensures { λ r. ⌜ Effected (done (registerValue (sideOf side) (stateOf card)) 0 []) card r ⌝ }
+    requires { ⌜ sound (stateAs card) ≡ true ⌝ }
+    ensures { λ r. ⌜ Effected (done (registerRead (sideOf side) (stateAs card)) 0 []) card r ⌝ }
 {
     let interrupts = card.interrupts;
     let register = interrupts.register(side);
@@ -47,14 +42,13 @@ fn write_register(card: Card, side: u8, value: u32) -> Outcome
     ensures { λ r. ⌜ Effected (registerWritten (sideOf side) value) card r ⌝ }
 {
     let interrupts = card.interrupts;
-    let mut changed = card;
-    changed.interrupts = interrupts.write(side, value);
-    changed.done(0, 0)
+    card.with_interrupts(interrupts.write(side, value))
+        .done(0, 0)
 }
 
 // "V 1 active, else 0."
 fn line_level(card: Card, side: u8) -> Outcome
-    ensures { λ r. ⌜ Effected (done (if active (sideOf side) (stateOf card) then 1 else 0) 0 []) card r ⌝ }
+    ensures { λ r. ⌜ Effected (done (if lineActive (sideOf side) (stateAs card) then 1 else 0) 0 []) card r ⌝ }
 {
     let interrupts = card.interrupts;
     let register = interrupts.register(side);
@@ -68,16 +62,22 @@ fn line_level(card: Card, side: u8) -> Outcome
 fn raise_external(card: Card) -> Outcome
     ensures { λ r. ⌜ Effected (done 0 0 (raised host external ∷ [])) card r ⌝ }
 {
-    card.raise(0, events::EXTERNAL).done(0, 0)
+    let interrupts = card.interrupts;
+    card.with_interrupts(interrupts.raise(access::HOST, events::EXTERNAL))
+        .done(0, 0)
 }
 
 fn pin_refusal(q: Access) -> u8
-    ensures { λ r. ⌜ ((w : World) → r ≡ refusal (rowOf model.externalPin w (accessOf q) .checks)) ⌝ }
+    ensures { λ r. ⌜ r ≡ refusal ((3 for nonzero (q .s ∷ q .a ∷ q .b ∷ q .c ∷ [])) ∷ (5 for notBy local (sideOf (q .side))) ∷ []) ⌝ }
 {
     access::when(
         access::UNUSED_FIELD,
         access::nonzero(q.s, q.a, q.b, q.c),
-        access::when(access::WRONG_SIDE, access::wrong_side(1, q.side), 0),
+        access::when(
+            access::WRONG_SIDE,
+            access::wrong_side(access::LOCAL, q.side),
+            0,
+        ),
     )
 }
 
@@ -85,7 +85,7 @@ fn pin_refusal(q: Access) -> u8
 
 // 11 interrupt read; a sound record's register fits V
 pub fn read(card: Card, q: Access) -> Outcome
-    requires { ⌜ sound (stateOf card) ≡ true ⌝ }
+    requires { ⌜ sound (stateAs card) ≡ true ⌝ }
     ensures { λ r. ⌜ ((m w : List ℕ) → Did model.interruptRead card q m w r m w) ⌝ }
 {
     let n = access::no_field(q);

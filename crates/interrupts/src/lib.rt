@@ -1,13 +1,11 @@
 // Document 01, "Interrupt registers": HINT and LINT by value.
 ghost use mathlib.Core.Path.{_≡_};
-ghost use mathlib.Core.Bool.{_&&_};
 ghost use Prim.Native.Nat.{_/_};
-ghost use Rattle.model.specs.Sides.{host, local, sideOf};
+ghost use Rattle.model.specs.Sides.{sideOf};
 ghost use Rattle.model.specs.Events.{common, enableMask};
-ghost use Rattle.model.specs.State.{registerSound};
-ghost use Rattle.model.specs.Changes.{register, withRegister, clearedIn, enablesIn};
-ghost use Rattle.events.specs.Registers.{registerAs, raisedAll};
-ghost use Rattle.interrupts.specs.Bridge.{interruptsAs, onSide, raisedBoth};
+ghost use Rattle.model.specs.Interrupts.{freshInterrupts, interruptsSound, register, onRegister, clearedIn, enablesIn};
+ghost use Rattle.events.specs.Bridge.{registerAs, raisedAll};
+ghost use Rattle.interrupts.specs.Bridge.{interruptsAs, raisedBoth};
 use events::EventSet;
 use events::Register;
 
@@ -18,26 +16,39 @@ pub struct Interrupts {
 }
 
 impl Interrupts {
+    pub fn fresh() -> Interrupts
+        ensures { λ r. ⌜ interruptsAs r ≡ freshInterrupts ⌝ }
+    {
+        Interrupts {
+            hint: Register::fresh(),
+            lint: Register::fresh(),
+        }
+    }
+
     pub fn sound(self) -> bool
-        ensures { λ r. ⌜ r ≡ (registerSound host (registerAs (self .hint)) && registerSound local (registerAs (self .lint))) ⌝ }
+        ensures { λ r. ⌜ r ≡ interruptsSound (interruptsAs self) ⌝ }
     {
         let hint = self.hint;
         let lint = self.lint;
-        hint.sound(0) & lint.sound(1)
+        hint.sound(access::HOST) & lint.sound(access::LOCAL)
     }
 
     // "Caller's own register."
     pub fn register(self, side: u8) -> Register
         ensures { λ r. ⌜ registerAs r ≡ register (sideOf side) (interruptsAs self) ⌝ }
     {
-        if side == 0 { self.hint } else { self.lint }
+        if side == access::HOST {
+            self.hint
+        } else {
+            self.lint
+        }
     }
 
     fn with(self, side: u8, register: Register) -> Interrupts
-        ensures { λ r. ⌜ interruptsAs r ≡ withRegister (sideOf side) (registerAs register) (interruptsAs self) ⌝ }
+        ensures { λ r. ⌜ interruptsAs r ≡ onRegister (sideOf side) (λ _. registerAs register) (interruptsAs self) ⌝ }
     {
         let mut interrupts = self;
-        if side == 0 {
+        if side == access::HOST {
             interrupts.hint = register;
             interrupts
         } else {
@@ -47,7 +58,7 @@ impl Interrupts {
     }
 
     pub fn raise(self, side: u8, events: EventSet) -> Interrupts
-        ensures { λ r. ⌜ interruptsAs r ≡ onSide (sideOf side) (raisedAll (events .0)) (interruptsAs self) ⌝ }
+        ensures { λ r. ⌜ interruptsAs r ≡ onRegister (sideOf side) (raisedAll (events .0)) (interruptsAs self) ⌝ }
     {
         let register = self.register(side);
         self.with(side, register.raise(events))
@@ -57,11 +68,13 @@ impl Interrupts {
     pub fn raise_both(self, events: EventSet) -> Interrupts
         ensures { λ r. ⌜ interruptsAs r ≡ raisedBoth (events .0) (interruptsAs self) ⌝ }
     {
-        self.raise(0, events).raise(1, events)
+        self.raise(access::HOST, events)
+            .raise(access::LOCAL, events)
     }
 
+    // "A write replaces the enables .. and clears each status bit where it has a 1."
     pub fn write(self, side: u8, value: u32) -> Interrupts
-        ensures { λ r. ⌜ interruptsAs r ≡ onSide (sideOf side) (λ q. clearedIn value (enablesIn (common (value / 65536) (enableMask (sideOf side))) q)) (interruptsAs self) ⌝ }
+        ensures { λ r. ⌜ interruptsAs r ≡ onRegister (sideOf side) (clearedIn value) (onRegister (sideOf side) (enablesIn (common (value / 65536) (enableMask (sideOf side)))) (interruptsAs self)) ⌝ }
     {
         let register = self.register(side);
         self.with(side, register.write(side, value))

@@ -3,10 +3,15 @@ ghost use mathlib.Core.Path.{_≡_};
 ghost use Prim.Native.Nat.{_+_, _*_, _<_, _≤_};
 ghost use lib.ListN.{length};
 ghost use Rattle.model.specs.Choice.{if_then_else_};
-ghost use Rattle.model.specs.Lanes.{dwordOf, bytesOf, enabled, readDword, writeDword};
-ghost use Rattle.lanes.specs.Merge.{merge};
+ghost use Rattle.model.specs.Lanes.{dwordOf, bytesOf, enabled, laneValues, byteAt, readDword, writeDword};
+ghost use Rattle.lanes.specs.Bridge.{merge};
 
-// A number that has room for one byte more, with that byte below it.
+// "Lane bits are active low: 0 enables": the lane masks of all four lanes and of none.
+pub const ALL_LANES: u8 = 0;
+
+pub const NO_LANES: u8 = 15;
+
+// A byte below the number of the bytes above it: the step by which `dword_of` gathers a dword from lane 3 down.
 fn with_low_byte(byte: u8, high: u32) -> u32
     requires { ⌜ high < 16777216 ⌝ }
     ensures { λ r. ⌜ r ≡ byte + 256 * high ⌝ }
@@ -65,16 +70,23 @@ pub fn merged(old: [u8; 4], new: [u8; 4], lanes: u8) -> [u8; 4]
     ]
 }
 
+// The four bytes of a memory from an address on: what the lanes hold where all are enabled.
+pub fn bytes_at(mem: &[u8], at: usize) -> [u8; 4]
+    requires { ⌜ at + 4 ≤ length (now mem) ⌝ }
+    ensures { λ r. ⌜ r ≡ laneValues 4 (byteAt (now (mem .entry))) at 0 ⌝ }
+{
+    let a1 = at + 1;
+    let a2 = a1 + 1;
+    let a3 = a2 + 1;
+    [mem[at], mem[a1], mem[a2], mem[a3]]
+}
+
 // The dword at an address of a memory, "disabled lanes 0".
 pub fn read_dword(mem: &[u8], at: usize, lanes: u8) -> u32
     requires { ⌜ at + 4 ≤ length (now mem) ⌝ }
     ensures { λ r. ⌜ r ≡ readDword (now (mem .entry)) at lanes ⌝ }
 {
-    let a1 = at + 1;
-    let a2 = a1 + 1;
-    let a3 = a2 + 1;
-    let held = [mem[at], mem[a1], mem[a2], mem[a3]];
-    dword_of(merged([0, 0, 0, 0], held, lanes))
+    dword_of(merged([0, 0, 0, 0], bytes_at(mem, at), lanes))
 }
 
 // "Enabled lanes stored": the other bytes of the memory stay.
@@ -82,11 +94,10 @@ pub fn write_dword(mem: &mut [u8], at: usize, lanes: u8, dword: u32)
     requires { ⌜ at + 4 ≤ length (now mem) ⌝ }
     ensures { λ _. ⌜ now (mem .exit) ≡ writeDword (now (mem .entry)) at lanes dword ⌝ }
 {
+    let stored = merged(bytes_at(mem, at), bytes_of(dword), lanes);
     let a1 = at + 1;
     let a2 = a1 + 1;
     let a3 = a2 + 1;
-    let held = [mem[at], mem[a1], mem[a2], mem[a3]];
-    let stored = merged(held, bytes_of(dword), lanes);
     mem[at] = stored[0];
     mem[a1] = stored[1];
     mem[a2] = stored[2];

@@ -3,48 +3,52 @@ ghost use mathlib.Core.Path.{_≡_};
 ghost use mathlib.Core.List.{List};
 ghost use Prim.Native.Nat.{ℕ};
 ghost use lib.ListN.{length};
-ghost use Rattle.model.specs.Checks.{refusal};
+ghost use Rattle.model.specs.Checks.{refusal, sharedLength};
 ghost use Rattle.model.specs.Sides.{sideOf};
 ghost use Rattle.model.specs.Accesses as model;
 ghost use Rattle.settings.specs.Bridge.{settingsAs};
-ghost use Rattle.card.specs.Did.{Did};
-ghost use Rattle.memory_access.specs.Rows.{sharedChecks, windowChecks};
+ghost use Rattle.card.specs.Bridge.{Did};
+ghost use Rattle.memory_access.specs.Bridge.{sharedChecks, windowChecks};
 use access::Access;
 use card::Card;
 use card::Outcome;
 use settings::Settings;
 
-// CHECKS
+// CHECKS. Of the fields B and C, reads use neither and writes use B; a caller hands in 0 for a field that its kind uses.
 
-// Kinds 1 and 2, which differ in their unused fields: S a lane mask, A an address of shared memory.
-fn shared_refusal(q: Access, unused: bool) -> u8
-    ensures { λ r. ⌜ r ≡ refusal (sharedChecks unused (q .s) (q .a)) ⌝ }
+// Kinds 1 and 2: S a lane mask, A an address of shared memory.
+fn shared_refusal(q: Access, b: u32) -> u8
+    ensures { λ r. ⌜ r ≡ refusal (sharedChecks (q .s) (q .a) b (q .c)) ⌝ }
 {
     access::when(
         access::UNUSED_FIELD,
-        unused,
+        access::nonzero(0, 0, b, q.c),
         access::when(
             access::SELECTOR,
             15 < q.s,
-            access::when(access::ADDRESS, access::misplaced(q.a, 4, 0, 16384), 0),
+            access::when(
+                access::ADDRESS,
+                access::misplaced(q.a, 4, 0, access::SHARED_LENGTH),
+                0,
+            ),
         ),
     )
 }
 
-// Kinds 3 and 4, the same way: "host only", S a lane mask, A a PCI address.
-fn window_refusal(q: Access, settings: Settings, unused: bool) -> u8
-    ensures { λ r. ⌜ r ≡ refusal (windowChecks (settingsAs settings) (sideOf (q .side)) unused (q .s) (q .a)) ⌝ }
+// Kinds 3 and 4, "host only": A is a PCI address.
+fn window_refusal(settings: Settings, q: Access, b: u32) -> u8
+    ensures { λ r. ⌜ r ≡ refusal (windowChecks (settingsAs settings) (sideOf (q .side)) (q .s) (q .a) b (q .c)) ⌝ }
 {
     let outside = settings.outside_window(q.a, 4);
     access::when(
         access::UNUSED_FIELD,
-        unused,
+        access::nonzero(0, 0, b, q.c),
         access::when(
             access::SELECTOR,
             15 < q.s,
             access::when(
                 access::WRONG_SIDE,
-                access::wrong_side(0, q.side),
+                access::wrong_side(access::HOST, q.side),
                 access::when(access::ADDRESS, outside, 0),
             ),
         ),
@@ -55,10 +59,10 @@ fn window_refusal(q: Access, settings: Settings, unused: bool) -> u8
 
 // 1 shared read
 pub fn shared_read(card: Card, shared: &[u8], q: Access) -> Outcome
-    requires { ⌜ length (now shared) ≡ 16384 ⌝ }
+    requires { ⌜ length (now shared) ≡ sharedLength ⌝ }
     ensures { λ r. ⌜ ((w : List ℕ) → Did model.sharedRead card q (now (shared .entry)) w r (now (shared .entry)) w) ⌝ }
 {
-    let number = shared_refusal(q, access::nonzero(0, 0, q.b, q.c));
+    let number = shared_refusal(q, q.b);
     if number != 0 {
         return card.refused(number);
     }
@@ -67,10 +71,10 @@ pub fn shared_read(card: Card, shared: &[u8], q: Access) -> Outcome
 
 // 2 shared write
 pub fn shared_write(card: Card, shared: &mut [u8], q: Access) -> Outcome
-    requires { ⌜ length (now shared) ≡ 16384 ⌝ }
+    requires { ⌜ length (now shared) ≡ sharedLength ⌝ }
     ensures { λ r. ⌜ ((w : List ℕ) → Did model.sharedWrite card q (now (shared .entry)) w r (now (shared .exit)) w) ⌝ }
 {
-    let number = shared_refusal(q, access::nonzero(0, 0, 0, q.c));
+    let number = shared_refusal(q, 0);
     if number != 0 {
         return card.refused(number);
     }
@@ -84,7 +88,7 @@ pub fn window_read(card: Card, window: &[u8], q: Access) -> Outcome
     ensures { λ r. ⌜ ((m : List ℕ) → Did model.windowRead card q m (now (window .entry)) r m (now (window .entry))) ⌝ }
 {
     let settings = card.settings;
-    let number = window_refusal(q, settings, access::nonzero(0, 0, q.b, q.c));
+    let number = window_refusal(settings, q, q.b);
     if number != 0 {
         return card.refused(number);
     }
@@ -97,7 +101,7 @@ pub fn window_write(card: Card, window: &mut [u8], q: Access) -> Outcome
     ensures { λ r. ⌜ ((m : List ℕ) → Did model.windowWrite card q m (now (window .entry)) r m (now (window .exit))) ⌝ }
 {
     let settings = card.settings;
-    let number = window_refusal(q, settings, access::nonzero(0, 0, 0, q.c));
+    let number = window_refusal(settings, q, 0);
     if number != 0 {
         return card.refused(number);
     }

@@ -1,20 +1,24 @@
 -- Document 01, "Accesses": the seventeen kinds, row by row, and what an access gives.
-use mathlib.Core.Bool.{Bool, true, false, not, _&&_, _||_}
+use mathlib.Core.Bool.{Bool, false, not, _&&_, _||_}
 use mathlib.Core.List.{List, [], _∷_}
 use Prim.Native.Nat.{ℕ, zero, suc, _-_, _/_}
-use lib.ListN.{length, getD}
-use lib.Dec.{eqb}
+use lib.ListN.{getD}
 use Rattle.model.specs.Choice.{if_then_else_}
-use Rattle.model.specs.Checks.{Check, _for_, refusal}
+use Rattle.model.specs.Checks.{Check, _for_, refusal, nonzero, above, misplaced, sharedLength}
 use Rattle.model.specs.Lanes.{readDword}
 use Rattle.model.specs.Sides.{Side, host, local, sideOf, notBy}
 use Rattle.model.specs.Events.{external}
-use Rattle.model.specs.State.{Transfer, Dma, idle, running, World, above, misplaced, sharedLength, directionCheck, transferChecks, sound}
-use Rattle.model.specs.Changes.{allFresh, flagIs, raised, dmaIs, fifo, pair, toShared, toWindow, Effect, done, _storing_, worldAfter}
-use Rattle.model.specs.FifosAndFlags.{putter, taker, takenFrom, putInto, claimed}
-use Rattle.model.specs.Mailboxes.{mailWritten, mailFor, labelFor}
-use Rattle.model.specs.Interrupts.{registerValue, registerWritten, active}
-use Rattle.model.specs.Steps.{outsideWindow, stepped}
+use Rattle.model.specs.Settings.{lengthsFit, outsideWindow}
+use Rattle.model.specs.Fifos.{entriesOf, putter, taker}
+use Rattle.model.specs.Arbitration.{pairOf}
+use Rattle.model.specs.Mailboxes.{mailFor, labelFor}
+use Rattle.model.specs.Transfer.{running, isIdle, requestOf, directionCheck, requestChecks}
+use Rattle.model.specs.State.{World, sound}
+use Rattle.model.specs.Changes.{allFresh, flagIs, raised, transferIs, toShared, toWindow, Effect, done, _storing_, worldAfter}
+use Rattle.model.specs.FifosAndFlags.{takenFrom, putInto, claimed}
+use Rattle.model.specs.MailboxWrites.{mailWritten}
+use Rattle.model.specs.InterruptRegisters.{registerRead, registerWritten, lineActive}
+use Rattle.model.specs.Steps.{stepped}
 use Rattle.model.specs.Runs.{Outcome}
 
 -- "Kind, side and selector S are bytes; A, B, C, V and X are 32-bit numbers."
@@ -41,26 +45,31 @@ abbrev pub kinds : List Kind
 kinds =
     (reset ∷ sharedRead ∷ sharedWrite ∷ windowRead ∷ windowWrite
     ∷ take ∷ put ∷ claim ∷ release ∷ mailboxWrite ∷ mailboxRead
-    ∷ interruptRead ∷ interruptWrite ∷ line ∷ start ∷ step ∷ externalPin
-    ∷ [])
+    ∷ interruptRead ∷ interruptWrite ∷ line ∷ start ∷ step ∷ externalPin ∷ [])
 
 abbrev pub kindOf : ℕ → Kind
 kindOf n = getD kinds n unknown
 
--- CAUSES
-
--- cause 3: one of the fields that the kind does not use is not zero
-abbrev pub nonzero : List ℕ → Bool
-nonzero [] = false
-nonzero (n ∷ ns) = not (eqb n 0) || nonzero ns
-
-abbrev pub isIdle : Dma → Bool
-isIdle idle = true
-isIdle (running t moved) = false
-
--- what the fields of a start say
-abbrev pub transferOf : (s a b c : ℕ) → Transfer
-transferOf s a b c = record { direction = s; shared = a; pci = b; size = c }
+-- the list of kinds, read the other way; 17 is no kind's
+abbrev pub numberOf : Kind → ℕ
+numberOf reset = 0
+numberOf sharedRead = 1
+numberOf sharedWrite = 2
+numberOf windowRead = 3
+numberOf windowWrite = 4
+numberOf take = 5
+numberOf put = 6
+numberOf claim = 7
+numberOf release = 8
+numberOf mailboxWrite = 9
+numberOf mailboxRead = 10
+numberOf interruptRead = 11
+numberOf interruptWrite = 12
+numberOf line = 13
+numberOf start = 14
+numberOf step = 15
+numberOf externalPin = 16
+numberOf unknown = 17
 
 -- THE TABLE
 
@@ -78,112 +87,88 @@ _⇒_ checks effect = record { checks = checks; effect = effect }
 abbrev pub row : Kind → World → Side → (s a b c : ℕ) → Row
 -- 0 reset | none | registers as fresh; settings and memories stay
 row reset w side s a b c =
-    3 for nonzero (s ∷ a ∷ b ∷ c ∷ [])
-    ∷ []
-    ⇒ done 0 0 (allFresh ∷ [])
+    3 for nonzero (s ∷ a ∷ b ∷ c ∷ []) ∷ [] ⇒ done 0 0 (allFresh ∷ [])
 -- 1 shared read | S lanes, A address | V the dword, disabled lanes 0
 row sharedRead w side s a b c =
     3 for nonzero (b ∷ c ∷ [])
     ∷ 4 for above 15 s
-    ∷ 9 for misplaced a 4 0 sharedLength
-    ∷ []
+    ∷ 9 for misplaced a 4 0 sharedLength ∷ []
     ⇒ done (readDword (w .shared) a s) 0 []
 -- 2 shared write | S lanes, A, B dword | enabled lanes stored
 row sharedWrite w side s a b c =
     3 for nonzero (c ∷ [])
     ∷ 4 for above 15 s
-    ∷ 9 for misplaced a 4 0 sharedLength
-    ∷ []
+    ∷ 9 for misplaced a 4 0 sharedLength ∷ []
     ⇒ done 0 0 [] storing toShared a s b
 -- 3 window read | as 1; A a PCI address | host only
 row windowRead w side s a b c =
     3 for nonzero (b ∷ c ∷ [])
     ∷ 4 for above 15 s
     ∷ 5 for notBy host side
-    ∷ 9 for outsideWindow (w .card .settings) a
-    ∷ []
+    ∷ 9 for outsideWindow (w .card .settings) a 4 ∷ []
     ⇒ done (readDword (w .window) (a - w .card .settings .base) s) 0 []
 -- 4 window write | as 2; A a PCI address | host only
 row windowWrite w side s a b c =
     3 for nonzero (c ∷ [])
     ∷ 4 for above 15 s
     ∷ 5 for notBy host side
-    ∷ 9 for outsideWindow (w .card .settings) a
-    ∷ []
+    ∷ 9 for outsideWindow (w .card .settings) a 4 ∷ []
     ⇒ done 0 0 [] storing toWindow (a - w .card .settings .base) s b
 -- 5 take | S FIFO | V entry, X 1; if empty V 4,294,967,295, X 0
 row take w side s a b c =
     3 for nonzero (a ∷ b ∷ c ∷ [])
     ∷ 4 for above 3 s
-    ∷ 5 for notBy (taker s) side
-    ∷ []
-    ⇒ takenFrom s (fifo (w .card) s)
+    ∷ 5 for notBy (taker s) side ∷ []
+    ⇒ takenFrom s (entriesOf (w .card .fifos) s)
 -- 6 put | S FIFO, B entry | X 1 held; X 0 lost to overflow
 row put w side s a b c =
     3 for nonzero (a ∷ c ∷ [])
     ∷ 4 for above 3 s
-    ∷ 5 for notBy (putter s) side
-    ∷ []
-    ⇒ putInto side s (fifo (w .card) s) b
+    ∷ 5 for notBy (putter s) side ∷ []
+    ⇒ putInto side s (entriesOf (w .card .fifos) s) b
 -- 7 claim | S pair | V 1 if caller's flag is now set, else 0
 row claim w side s a b c =
     3 for nonzero (a ∷ b ∷ c ∷ [])
-    ∷ 4 for above 3 s
-    ∷ []
-    ⇒ claimed side s (pair (w .card) s)
+    ∷ 4 for above 3 s ∷ []
+    ⇒ claimed side s (pairOf (w .card .arbitration) s)
 -- 8 release | S pair | caller's flag clear
 row release w side s a b c =
     3 for nonzero (a ∷ b ∷ c ∷ [])
-    ∷ 4 for above 3 s
-    ∷ []
+    ∷ 4 for above 3 s ∷ []
     ⇒ done 0 0 (flagIs side s false ∷ [])
 -- 9 mailbox write | B | see Mailboxes
 row mailboxWrite w side s a b c =
-    3 for nonzero (s ∷ a ∷ c ∷ [])
-    ∷ []
-    ⇒ mailWritten side b
+    3 for nonzero (s ∷ a ∷ c ∷ []) ∷ [] ⇒ mailWritten side b
 -- 10 mailbox read | none | V data, X bay label
 row mailboxRead w side s a b c =
-    3 for nonzero (s ∷ a ∷ b ∷ c ∷ [])
-    ∷ []
-    ⇒ done (mailFor side (w .card .mailboxes)) (labelFor side (w .card .mailboxes)) []
+    3 for nonzero (s ∷ a ∷ b ∷ c ∷ []) ∷ [] ⇒ done (mailFor side (w .card .mailboxes)) (labelFor side (w .card .mailboxes)) []
 -- 11 interrupt read | none | V the caller's own register
 row interruptRead w side s a b c =
-    3 for nonzero (s ∷ a ∷ b ∷ c ∷ [])
-    ∷ []
-    ⇒ done (registerValue side (w .card)) 0 []
+    3 for nonzero (s ∷ a ∷ b ∷ c ∷ []) ∷ [] ⇒ done (registerRead side (w .card)) 0 []
 -- 12 interrupt write | B | to the caller's own register
 row interruptWrite w side s a b c =
-    3 for nonzero (s ∷ a ∷ c ∷ [])
-    ∷ []
-    ⇒ registerWritten side b
+    3 for nonzero (s ∷ a ∷ c ∷ []) ∷ [] ⇒ registerWritten side b
 -- 13 line | none | V 1 active, else 0: the caller's own line
 row line w side s a b c =
-    3 for nonzero (s ∷ a ∷ b ∷ c ∷ [])
-    ∷ []
-    ⇒ done (if active side (w .card) then 1 else 0) 0 []
+    3 for nonzero (s ∷ a ∷ b ∷ c ∷ []) ∷ [] ⇒ done (if lineActive side (w .card) then 1 else 0) 0 []
 -- 14 start | S direction, A shared, B PCI address, C size | V = size / 4. "The window is not consulted at a start."
 row start w side s a b c =
-    directionCheck (transferOf s a b c)
-    ∷ 6 for not (isIdle (w .card .dma))
-    ∷ transferChecks (transferOf s a b c)
-    ⇒ done (c / 4) 0 (dmaIs (running (transferOf s a b c) 0) ∷ [])
+    directionCheck (requestOf s a b c)
+    ∷ 6 for not (isIdle (w .card .transfer))
+    ∷ requestChecks (requestOf s a b c)
+    ⇒ done (c / 4) 0 (transferIs (running (requestOf s a b c) 0) ∷ [])
 -- 15 step | none | V outcome, X dwords moved
 row step w side s a b c =
     3 for nonzero (s ∷ a ∷ b ∷ c ∷ [])
-    ∷ 10 for isIdle (w .card .dma)
-    ∷ []
-    ⇒ stepped w (w .card .dma)
+    ∷ 10 for isIdle (w .card .transfer) ∷ []
+    ⇒ stepped w (w .card .transfer)
 -- 16 external pin | none | local only; raises host event 4
 row externalPin w side s a b c =
     3 for nonzero (s ∷ a ∷ b ∷ c ∷ [])
-    ∷ 5 for notBy local side
-    ∷ []
+    ∷ 5 for notBy local side ∷ []
     ⇒ done 0 0 (raised host external ∷ [])
 -- no kind: refused with 2 before its row is read
-row unknown w side s a b c =
-    []
-    ⇒ done 0 0 []
+row unknown w side s a b c = [] ⇒ done 0 0 []
 
 abbrev pub rowOf : Kind → World → Access → Row
 rowOf kind w q = row kind w (sideOf (q .side)) (q .s) (q .a) (q .b) (q .c)
@@ -192,7 +177,7 @@ rowOf kind w q = row kind w (sideOf (q .side)) (q .s) (q .a) (q .b) (q .c)
 
 -- the contrary of cause 1: "record not sound, shared memory not 16,384 bytes, or window not of the set length"
 abbrev pub fit : World → Bool
-fit w = sound (w .card) && eqb (length (w .shared)) sharedLength && eqb (length (w .window)) (w .card .settings .length)
+fit w = sound (w .card) && lengthsFit (w .card .settings) (w .shared) (w .window)
 
 -- causes 1 and 2 stand before those of the kind
 abbrev pub checks : World → Access → List Check

@@ -1,13 +1,17 @@
 -- What a done access may change in the card's record, one thing at a time, and the dword that it may store in a memory.
 -- A change says what happened. What it does not name stays as it is.
-use mathlib.Core.Bool.{Bool, true}
-use mathlib.Core.List.{List, [], _∷_, _++_}
+use mathlib.Core.Bool.{Bool}
+use mathlib.Core.List.{List, [], _∷_}
 use Prim.Native.Nat.{ℕ}
-use lib.ListN.{getD, set, drop}
 use Rattle.model.specs.Lanes.{writeDword}
 use Rattle.model.specs.Sides.{Side, host, local}
-use Rattle.model.specs.Events.{Event, insert, without}
-use Rattle.model.specs.State.{Flags, Mailboxes, Register, Interrupts, Dma, State, World, fresh}
+use Rattle.model.specs.Events.{Event}
+use Rattle.model.specs.Fifos.{pushedOn, poppedFrom}
+use Rattle.model.specs.Arbitration.{withFlagOf}
+use Rattle.model.specs.Mailboxes.{withMail}
+use Rattle.model.specs.Interrupts.{onRegister, raisedIn, clearedIn, enablesIn}
+use Rattle.model.specs.Transfer.{Transfer}
+use Rattle.model.specs.State.{State, World, withFifos, withArbitration, withMailboxes, withInterrupts, withTransfer, fresh}
 
 pub data Change : Type 0 where
   -- every register as in a fresh card
@@ -24,77 +28,20 @@ pub data Change : Type 0 where
   cleared : Side → (bits : ℕ) → Change
   enablesAre : Side → (enables : ℕ) → Change
   -- the transfer begun, moved on or ended
-  dmaIs : Dma → Change
-
--- PARTS OF THE RECORD, read and replaced
-
-abbrev pub fifo : State → (i : ℕ) → List ℕ
-fifo s i = getD (s .fifos) i []
-
-abbrev pub pair : State → (i : ℕ) → Flags
-pair s i = getD (s .flags) i (record { ofHost = Bool.false; ofLocal = Bool.false })
-
-abbrev pub flag : Side → Flags → Bool
-flag host f = f .ofHost
-flag local f = f .ofLocal
-
-abbrev pub register : Side → Interrupts → Register
-register host i = i .hint
-register local i = i .lint
-
-abbrev pub withFlag : Side → Bool → Flags → Flags
-withFlag host b f = record { ofHost = b; ofLocal = f .ofLocal }
-withFlag local b f = record { ofHost = f .ofHost; ofLocal = b }
-
--- the host writes HLDATA, the local side LHDATA, which is then written
-abbrev pub withMail : Side → ℕ → Mailboxes → Mailboxes
-withMail host d m = record { hldata = d; lhdata = m .lhdata; written = m .written }
-withMail local d m = record { hldata = m .hldata; lhdata = d; written = true }
-
-abbrev pub withRegister : Side → Register → Interrupts → Interrupts
-withRegister host r i = record { hint = r; lint = i .lint }
-withRegister local r i = record { hint = i .hint; lint = r }
-
-abbrev pub withFifos : List (List ℕ) → State → State
-withFifos l s = record { settings = s .settings; fifos = l; flags = s .flags; mailboxes = s .mailboxes; interrupts = s .interrupts; dma = s .dma }
-
-abbrev pub withFlags : List Flags → State → State
-withFlags l s = record { settings = s .settings; fifos = s .fifos; flags = l; mailboxes = s .mailboxes; interrupts = s .interrupts; dma = s .dma }
-
-abbrev pub withMailboxes : Mailboxes → State → State
-withMailboxes m s = record { settings = s .settings; fifos = s .fifos; flags = s .flags; mailboxes = m; interrupts = s .interrupts; dma = s .dma }
-
-abbrev pub withInterrupts : Interrupts → State → State
-withInterrupts i s = record { settings = s .settings; fifos = s .fifos; flags = s .flags; mailboxes = s .mailboxes; interrupts = i; dma = s .dma }
-
-abbrev pub withDma : Dma → State → State
-withDma d s = record { settings = s .settings; fifos = s .fifos; flags = s .flags; mailboxes = s .mailboxes; interrupts = s .interrupts; dma = d }
-
--- one side's interrupt register, changed
-abbrev pub onRegister : Side → (Register → Register) → State → State
-onRegister side f s = withInterrupts (withRegister side (f (register side (s .interrupts))) (s .interrupts)) s
-
-abbrev pub raisedIn : Event → Register → Register
-raisedIn e r = record { enables = r .enables; status = insert (r .status) e }
-
-abbrev pub clearedIn : (bits : ℕ) → Register → Register
-clearedIn bits r = record { enables = r .enables; status = without (r .status) bits }
-
-abbrev pub enablesIn : (enables : ℕ) → Register → Register
-enablesIn n r = record { enables = n; status = r .status }
+  transferIs : Transfer → Change
 
 -- THE RECORD AFTERWARDS
 
 abbrev pub apply : Change → State → State
 apply allFresh s = fresh (s .settings)
-apply (pushed i entry) s = withFifos (set (s .fifos) i (fifo s i ++ (entry ∷ []))) s
-apply (popped i) s = withFifos (set (s .fifos) i (drop 1 (fifo s i))) s
-apply (flagIs side i b) s = withFlags (set (s .flags) i (withFlag side b (pair s i))) s
+apply (pushed i entry) s = withFifos (pushedOn i entry (s .fifos)) s
+apply (popped i) s = withFifos (poppedFrom i (s .fifos)) s
+apply (flagIs side i b) s = withArbitration (withFlagOf side i b (s .arbitration)) s
 apply (mailIs side d) s = withMailboxes (withMail side d (s .mailboxes)) s
-apply (raised side e) s = onRegister side (raisedIn e) s
-apply (cleared side bits) s = onRegister side (clearedIn bits) s
-apply (enablesAre side n) s = onRegister side (enablesIn n) s
-apply (dmaIs d) s = withDma d s
+apply (raised side e) s = withInterrupts (onRegister side (raisedIn e) (s .interrupts)) s
+apply (cleared side bits) s = withInterrupts (onRegister side (clearedIn bits) (s .interrupts)) s
+apply (enablesAre side n) s = withInterrupts (onRegister side (enablesIn n) (s .interrupts)) s
+apply (transferIs t) s = withTransfer t s
 
 -- one after another
 abbrev pub applyAll : List Change → State → State
@@ -139,8 +86,5 @@ abbrev pub _storing_ : Effect → Store → Effect
 _storing_ e store = record { v = e .v; x = e .x; changes = e .changes; store = store }
 
 abbrev pub worldAfter : Effect → World → World
-worldAfter e w = record {
-  card = applyAll (e .changes) (w .card);
-  shared = sharedAfter (e .store) (w .shared);
-  window = windowAfter (e .store) (w .window);
-}
+worldAfter e w =
+    record { card = applyAll (e .changes) (w .card); shared = sharedAfter (e .store) (w .shared); window = windowAfter (e .store) (w .window) }

@@ -11,19 +11,22 @@ use lib.Seq.{getD-set-same, getD-set-other}
 use lib.Dec.{eqb, ltb, eqb·suc-zero}
 use borrow.Author.Tests.{eqb-true, eqb-false, ltb-false}
 use Rattle.model.specs.Choice.{if_then_else_, every}
-use Rattle.model.specs.Checks.{refusal}
+use Rattle.model.specs.Checks.{refusal, above}
 use Rattle.model.specs.Sides.{sideOf, other}
 use Rattle.model.specs.Events.{bit}
-use Rattle.model.specs.State.{Settings, Dma, idle, running, State, World, above, settingsPass, NewCard, freshCard, freshWorld}
-use Rattle.model.specs.Changes.{Change, mailIs, fifo, pair, flag, applyAll, Effect, worldAfter}
+use Rattle.model.specs.Settings.{Settings, settingsPass, inAbortRange, outsideWindow}
+use Rattle.model.specs.Fifos.{entriesOf}
+use Rattle.model.specs.Arbitration.{pairOf, flag}
+use Rattle.model.specs.Transfer.{Transfer, idle, running, pciOf}
+use Rattle.model.specs.State.{State, World, NewCard, freshCard, freshWorld}
+use Rattle.model.specs.Changes.{Change, mailIs, applyAll, Effect, worldAfter}
 use Rattle.model.specs.FifosAndFlags.{takenFrom, putInto}
-use Rattle.model.specs.Steps.{inAbortRange, outsideWindow, pciOf, stepped}
-use Rattle.model.specs.Runs.{Entry, run}
-use Rattle.model.specs.Entries.{entryAt}
-use Rattle.model.specs.Accesses.{Access, Answer, Kind, reset, sharedRead, sharedWrite, windowRead, windowWrite, take, put, claim, release, mailboxWrite, mailboxRead, interruptRead, interruptWrite, line, start, step, externalPin, unknown, kindOf, rowOf, checks, settled, access}
+use Rattle.model.specs.Steps.{stepped}
+use Rattle.model.specs.Runs.{Entry, run, entryAt}
+use Rattle.model.specs.Accesses.{Access, Answer, Kind, kindOf, rowOf, checks, settled, access, numberOf}
 use Rattle.model.specs.TestLaws.{and-left, and-right, or-left, if-case}
 use Rattle.model.specs.CheckLaws.{Pass}
-use Rattle.model.specs.KindNumbers.{numberOf, number-at}
+use Rattle.model.specs.KindLaws.{number-at}
 use Rattle.model.specs.Refusals.{number-is, checks-passed, done-is, refused-is}
 use Rattle.model.specs.Soundness.{sound-parts, fit-parts, done-fit}
 
@@ -39,7 +42,7 @@ succeeds k i e = isDone k e && eqb (e .answer .x) 1 && eqb (e .access .s) i
 
 -- no done reset (kind 0) is among them
 abbrev pub noReset : List (Entry Access Answer) → Bool
-noReset es = every (λ e. not (isDone 0 e)) es
+noReset es = every (λ e. not (isDone (numberOf Kind.reset) e)) es
 
 -- "since the last reset": the entries behind the last done reset, and all of them if there is none
 abbrev pub sinceReset : List (Entry Access Answer) → List (Entry Access Answer)
@@ -49,90 +52,90 @@ sinceReset (e ∷ es) = if noReset (e ∷ es) then e ∷ es else sinceReset es
 -- what accepted puts (kind 6) brought into a FIFO, in order: their B
 abbrev pub accepted : (fifo : ℕ) → List (Entry Access Answer) → List ℕ
 accepted i [] = []
-accepted i (e ∷ es) = if succeeds 6 i e then e .access .b ∷ accepted i es else accepted i es
+accepted i (e ∷ es) = if succeeds (numberOf Kind.put) i e then e .access .b ∷ accepted i es else accepted i es
 
 -- what successful takes (kind 5) got out of it, in order: their V
 abbrev pub takenOut : (fifo : ℕ) → List (Entry Access Answer) → List ℕ
 takenOut i [] = []
-takenOut i (e ∷ es) = if succeeds 5 i e then e .answer .v ∷ takenOut i es else takenOut i es
+takenOut i (e ∷ es) = if succeeds (numberOf Kind.take) i e then e .answer .v ∷ takenOut i es else takenOut i es
 
 -- ONE ACCESS
 
 abbrev Keeps : State → List Change → Type 0
 Keeps s cs = applyAll cs s .fifos ≡ s .fifos
 
-step-keeps : (w : World) (d : Dma) (s : State) → Keeps s (stepped w d .changes)
+step-keeps : (w : World) (d : Transfer) (s : State) → Keeps s (stepped w d .changes)
 step-keeps w idle s = refl
 step-keeps w (running t i) s =
     let P : Effect → Type 0 = λ e. Keeps s (e .changes) in
     if-case P (inAbortRange (w .card .settings) (pciOf t i)) _ _ (λ _. refl)
-    (λ _. if-case P (outsideWindow (w .card .settings) (pciOf t i)) _ _ (λ _. refl)
+    (λ _. if-case P (outsideWindow (w .card .settings) (pciOf t i) 4) _ _ (λ _. refl)
     (λ _. if-case P (eqb (suc i) (t .size / 4)) _ _ (λ _. refl) (λ _. refl)))
 
 -- an access of a kind other than reset, take and put keeps every FIFO
-other-keeps : (k : Kind) → numberOf k ≢ 0 → numberOf k ≢ 5 → numberOf k ≢ 6 → (w : World) (q : Access) → Keeps (w .card) (rowOf k w q .effect .changes)
-other-keeps reset r t p w q = absurd (r refl)
-other-keeps sharedRead r t p w q = refl
-other-keeps sharedWrite r t p w q = refl
-other-keeps windowRead r t p w q = refl
-other-keeps windowWrite r t p w q = refl
-other-keeps take r t p w q = absurd (t refl)
-other-keeps put r t p w q = absurd (p refl)
-other-keeps claim r t p w q = if-case (λ (e : Effect). Keeps (w .card) (e .changes)) (flag (other (sideOf (q .side))) (pair (w .card) (q .s))) _ _ (λ _. refl) (λ _. refl)
-other-keeps release r t p w q = refl
-other-keeps mailboxWrite r t p w q = if-case (λ cs. Keeps (w .card) (mailIs (sideOf (q .side)) (q .b % 65536) ∷ cs)) (bit 24 (q .b)) _ _ (λ _. refl) (λ _. refl)
-other-keeps mailboxRead r t p w q = refl
-other-keeps interruptRead r t p w q = refl
-other-keeps interruptWrite r t p w q = refl
-other-keeps line r t p w q = refl
-other-keeps start r t p w q = refl
-other-keeps step r t p w q = step-keeps w (w .card .dma) (w .card)
-other-keeps externalPin r t p w q = refl
-other-keeps unknown r t p w q = refl
+other-keeps : (k : Kind) → numberOf k ≢ numberOf Kind.reset → numberOf k ≢ numberOf Kind.take → numberOf k ≢ numberOf Kind.put → (w : World) (q : Access) → Keeps (w .card) (rowOf k w q .effect .changes)
+other-keeps Kind.reset r t p w q = absurd (r refl)
+other-keeps Kind.sharedRead r t p w q = refl
+other-keeps Kind.sharedWrite r t p w q = refl
+other-keeps Kind.windowRead r t p w q = refl
+other-keeps Kind.windowWrite r t p w q = refl
+other-keeps Kind.take r t p w q = absurd (t refl)
+other-keeps Kind.put r t p w q = absurd (p refl)
+other-keeps Kind.claim r t p w q = if-case (λ (e : Effect). Keeps (w .card) (e .changes)) (flag (other (sideOf (q .side))) (pairOf (w .card .arbitration) (q .s))) _ _ (λ _. refl) (λ _. refl)
+other-keeps Kind.release r t p w q = refl
+other-keeps Kind.mailboxWrite r t p w q = if-case (λ cs. Keeps (w .card) (mailIs (sideOf (q .side)) (q .b % 65536) ∷ cs)) (bit 24 (q .b)) _ _ (λ _. refl) (λ _. refl)
+other-keeps Kind.mailboxRead r t p w q = refl
+other-keeps Kind.interruptRead r t p w q = refl
+other-keeps Kind.interruptWrite r t p w q = refl
+other-keeps Kind.line r t p w q = refl
+other-keeps Kind.start r t p w q = refl
+other-keeps Kind.step r t p w q = step-keeps w (w .card .transfer) (w .card)
+other-keeps Kind.externalPin r t p w q = refl
+other-keeps Kind.unknown r t p w q = refl
 
 -- what the FIFOs hold, one of them replaced
-replaced : (l : List (List ℕ)) (s i : ℕ) (held : List ℕ) → s < length l → getD (set l s held) i [] ≡ (if eqb s i then held else getD l i [])
-replaced l s i held h = by (eqb s i) refl
+replaced : (l : List (List ℕ)) (s i : ℕ) (entries : List ℕ) → s < length l → getD (set l s entries) i [] ≡ (if eqb s i then entries else getD l i [])
+replaced l s i entries h = by (eqb s i) refl
   where
-    by : (t : Bool) → eqb s i ≡ t → getD (set l s held) i [] ≡ (if t then held else getD l i [])
-    by true e = ap (λ j. getD (set l s held) j []) (sym (eqb-true s i e)) ∙ getD-set-same l s held [] h
-    by false e = getD-set-other l s i held [] (λ j. eqb-false s i e (sym j))
+    by : (t : Bool) → eqb s i ≡ t → getD (set l s entries) i [] ≡ (if t then entries else getD l i [])
+    by true e = ap (λ j. getD (set l s entries) j []) (sym (eqb-true s i e)) ∙ getD-set-same l s entries [] h
+    by false e = getD-set-other l s i entries [] (λ j. eqb-false s i e (sym j))
 
--- What a FIFO held before an entry and what the entry puts into it are what the entry takes out of it and what it holds then.
+-- What a FIFO held before an access and what the access puts into it are what it takes out of it and what the FIFO holds then.
 abbrev Accounted : (fifo : ℕ) → Entry Access Answer → (before after : List ℕ) → Type 0
 Accounted i e l m = l ++ accepted i (e ∷ []) ≡ takenOut i (e ∷ []) ++ m
 
 module _ (w : World) (q : Access) (i : ℕ) where
   -- the same of an access that is done with this effect
   abbrev DoneWith : Effect → Type 0
-  DoneWith f = Accounted i (record { access = q; answer = settled 0 f w .answer }) (fifo (w .card) i) (fifo (worldAfter f w .card) i)
+  DoneWith f = Accounted i (record { access = q; answer = settled 0 f w .answer }) (entriesOf (w .card .fifos) i) (entriesOf (worldAfter f w .card .fifos) i)
 
-  put-accounted : q .kind ≡ 6 → q .s < length (w .card .fifos) → DoneWith (putInto (sideOf (q .side)) (q .s) (fifo (w .card) (q .s)) (q .b))
-  put-accounted k h = if-case DoneWith (ltb (length (fifo (w .card) (q .s))) 32) _ _
-      (λ _. rw (k, replaced (w .card .fifos) (q .s) i (fifo (w .card) (q .s) ++ (q .b ∷ [])) h) (by (eqb (q .s) i) refl))
+  put-accounted : q .kind ≡ numberOf Kind.put → q .s < length (w .card .fifos) → DoneWith (putInto (sideOf (q .side)) (q .s) (entriesOf (w .card .fifos) (q .s)) (q .b))
+  put-accounted k h = if-case DoneWith (ltb (length (entriesOf (w .card .fifos) (q .s))) 32) _ _
+      (λ _. rw (k, replaced (w .card .fifos) (q .s) i (entriesOf (w .card .fifos) (q .s) ++ (q .b ∷ [])) h) (by (eqb (q .s) i) refl))
       (λ _. rw k (append-nil _))
     where
-      by : (t : Bool) → eqb (q .s) i ≡ t → fifo (w .card) i ++ (if t then q .b ∷ [] else []) ≡ (if t then fifo (w .card) (q .s) ++ (q .b ∷ []) else fifo (w .card) i)
+      by : (t : Bool) → eqb (q .s) i ≡ t → entriesOf (w .card .fifos) i ++ (if t then q .b ∷ [] else []) ≡ (if t then entriesOf (w .card .fifos) (q .s) ++ (q .b ∷ []) else entriesOf (w .card .fifos) i)
       by true e = rw (eqb-true (q .s) i e)
       by false e = append-nil _
 
-  take-accounted : q .kind ≡ 5 → q .s < length (w .card .fifos) → DoneWith (takenFrom (q .s) (fifo (w .card) (q .s)))
-  take-accounted k h = by (fifo (w .card) (q .s)) refl
+  take-accounted : q .kind ≡ numberOf Kind.take → q .s < length (w .card .fifos) → DoneWith (takenFrom (q .s) (entriesOf (w .card .fifos) (q .s)))
+  take-accounted k h = by (entriesOf (w .card .fifos) (q .s)) refl
     where
-      out : (oldest : ℕ) (rest : List ℕ) (t : Bool) → fifo (w .card) (q .s) ≡ oldest ∷ rest → eqb (q .s) i ≡ t → fifo (w .card) i ++ [] ≡ (if t then oldest ∷ [] else []) ++ (if t then drop 1 (fifo (w .card) (q .s)) else fifo (w .card) i)
-      out oldest rest true e s = rw e (rw (eqb-true (q .s) i s) at (append-nil (fifo (w .card) (q .s)) ∙ e))
+      out : (oldest : ℕ) (rest : List ℕ) (t : Bool) → entriesOf (w .card .fifos) (q .s) ≡ oldest ∷ rest → eqb (q .s) i ≡ t → entriesOf (w .card .fifos) i ++ [] ≡ (if t then oldest ∷ [] else []) ++ (if t then drop 1 (entriesOf (w .card .fifos) (q .s)) else entriesOf (w .card .fifos) i)
+      out oldest rest true e s = rw e (rw (eqb-true (q .s) i s) at (append-nil (entriesOf (w .card .fifos) (q .s)) ∙ e))
       out oldest rest false e s = append-nil _
 
-      by : (held : List ℕ) → fifo (w .card) (q .s) ≡ held → DoneWith (takenFrom (q .s) held)
+      by : (entries : List ℕ) → entriesOf (w .card .fifos) (q .s) ≡ entries → DoneWith (takenFrom (q .s) entries)
       by [] e = rw k (append-nil _)
-      by (oldest ∷ rest) e = rw (k, replaced (w .card .fifos) (q .s) i (drop 1 (fifo (w .card) (q .s))) h) (out oldest rest (eqb (q .s) i) e refl)
+      by (oldest ∷ rest) e = rw (k, replaced (w .card .fifos) (q .s) i (drop 1 (entriesOf (w .card .fifos) (q .s))) h) (out oldest rest (eqb (q .s) i) e refl)
 
-  other-accounted : eqb (q .kind) 5 ≡ false → eqb (q .kind) 6 ≡ false → (f : Effect) → Keeps (w .card) (f .changes) → DoneWith f
+  other-accounted : eqb (q .kind) (numberOf Kind.take) ≡ false → eqb (q .kind) (numberOf Kind.put) ≡ false → (f : Effect) → Keeps (w .card) (f .changes) → DoneWith f
   other-accounted t p f h = rw (t, p, h) (append-nil _)
 
   -- a done access that is no reset
-  done-accounted : refusal (checks w q) ≡ 0 → eqb (q .kind) 0 ≡ false → DoneWith (rowOf (kindOf (q .kind)) w q .effect)
-  done-accounted h r = by (eqb (q .kind) 5) (eqb (q .kind) 6) refl refl
+  done-accounted : refusal (checks w q) ≡ 0 → eqb (q .kind) (numberOf Kind.reset) ≡ false → DoneWith (rowOf (kindOf (q .kind)) w q .effect)
+  done-accounted h r = by (eqb (q .kind) (numberOf Kind.take)) (eqb (q .kind) (numberOf Kind.put)) refl refl
     where
       passes : Pass (checks w q)
       passes = checks-passed w q h
@@ -141,26 +144,26 @@ module _ (w : World) (q : Access) (i : ℕ) where
       number = let l = ltb-false 16 (q .kind) (or-left (above 16 (q .kind)) (above 1 (q .side)) (passes .1 .0)) in let n = number-at (q .kind) (kindOf (q .kind)) refl in omega arith
 
       four : length (w .card .fifos) ≡ 4
-      four = eqb-true _ 4 (sound-parts (w .card) (fit-parts w (done-fit w q h) .sound) .fifoCount)
+      four = eqb-true _ 4 (and-left _ _ (sound-parts (w .card) (fit-parts w (done-fit w q h) .sound) .fifos))
 
       room : (n : ℕ) → q .kind ≡ n → (Pass (rowOf (kindOf n) w q .checks) → above 3 (q .s) ≡ false) → q .s < length (w .card .fifos)
       room n k check = omega (arith, four, ltb-false 3 (q .s) (check (subst (λ n. Pass (rowOf (kindOf n) w q .checks)) k (passes .1 .1))))
 
-      by : (t p : Bool) → eqb (q .kind) 5 ≡ t → eqb (q .kind) 6 ≡ p → DoneWith (rowOf (kindOf (q .kind)) w q .effect)
+      by : (t p : Bool) → eqb (q .kind) (numberOf Kind.take) ≡ t → eqb (q .kind) (numberOf Kind.put) ≡ p → DoneWith (rowOf (kindOf (q .kind)) w q .effect)
       by true p e f =
-          let k = eqb-true (q .kind) 5 e in
-          subst (λ n. DoneWith (rowOf (kindOf n) w q .effect)) (sym k) (take-accounted k (room 5 k (λ c. c .1 .0)))
+          let k = eqb-true (q .kind) (numberOf Kind.take) e in
+          subst (λ n. DoneWith (rowOf (kindOf n) w q .effect)) (sym k) (take-accounted k (room (numberOf Kind.take) k (λ c. c .1 .0)))
       by false true e f =
-          let k = eqb-true (q .kind) 6 f in
-          subst (λ n. DoneWith (rowOf (kindOf n) w q .effect)) (sym k) (put-accounted k (room 6 k (λ c. c .1 .0)))
+          let k = eqb-true (q .kind) (numberOf Kind.put) f in
+          subst (λ n. DoneWith (rowOf (kindOf n) w q .effect)) (sym k) (put-accounted k (room (numberOf Kind.put) k (λ c. c .1 .0)))
       by false false e f =
           other-accounted e f (rowOf (kindOf (q .kind)) w q .effect)
-          (other-keeps (kindOf (q .kind)) (rw number (eqb-false (q .kind) 0 r)) (rw number (eqb-false (q .kind) 5 e)) (rw number (eqb-false (q .kind) 6 f)) w q)
+          (other-keeps (kindOf (q .kind)) (rw number (eqb-false (q .kind) (numberOf Kind.reset) r)) (rw number (eqb-false (q .kind) (numberOf Kind.take) e)) (rw number (eqb-false (q .kind) (numberOf Kind.put) f)) w q)
 
-one-accounted : (w : World) (q : Access) (i : ℕ) → isDone 0 (entryAt access w q) ≡ false → Accounted i (entryAt access w q) (fifo (w .card) i) (fifo (access w q .world .card) i)
+one-accounted : (w : World) (q : Access) (i : ℕ) → isDone (numberOf Kind.reset) (entryAt access w q) ≡ false → Accounted i (entryAt access w q) (entriesOf (w .card .fifos) i) (entriesOf (access w q .world .card .fifos) i)
 one-accounted w q i r = by (refusal (checks w q)) refl
   where
-    by : (n : ℕ) → refusal (checks w q) ≡ n → Accounted i (entryAt access w q) (fifo (w .card) i) (fifo (access w q .world .card) i)
+    by : (n : ℕ) → refusal (checks w q) ≡ n → Accounted i (entryAt access w q) (entriesOf (w .card .fifos) i) (entriesOf (access w q .world .card .fifos) i)
     by zero e = rw (done-is w q e) (done-accounted w q i e (rw (done-is w q e) at r))
     by (suc n) e = rw (refused-is w q n e, eqb·suc-zero n) (append-nil _)
 
@@ -169,10 +172,10 @@ all-empty zero i = refl
 all-empty (suc n) zero = refl
 all-empty (suc n) (suc i) = all-empty n i
 
-reset-empties : (w : World) (q : Access) (i : ℕ) → isDone 0 (entryAt access w q) ≡ true → fifo (access w q .world .card) i ≡ []
+reset-empties : (w : World) (q : Access) (i : ℕ) → isDone (numberOf Kind.reset) (entryAt access w q) ≡ true → entriesOf (access w q .world .card .fifos) i ≡ []
 reset-empties w q i h =
     let n : refusal (checks w q) ≡ 0 = sym (number-is w q) ∙ eqb-true _ 0 (and-left _ _ h) in
-    rw (done-is w q n, eqb-true (q .kind) 0 (and-right (eqb (access w q .answer .number) 0) _ h)) (all-empty 4 i)
+    rw (done-is w q n, eqb-true (q .kind) (numberOf Kind.reset) (and-right (eqb (access w q .answer .number) 0) _ h)) (all-empty 4 i)
 
 -- A LIST OF ACCESSES
 
@@ -190,29 +193,29 @@ first-of false x l = refl
 
 -- an entry in front
 accounts-cons : (i : ℕ) (e : Entry Access Answer) (es : List (Entry Access Answer)) (l m r : List ℕ) →
-    (isDone 0 e ≡ true → m ≡ []) → (isDone 0 e ≡ false → Accounted i e l m) → Accounts i es m r → Accounts i (e ∷ es) l r
-accounts-cons i e es l m r a b h = by (isDone 0 e) (noReset es) refl refl
+    (isDone (numberOf Kind.reset) e ≡ true → m ≡ []) → (isDone (numberOf Kind.reset) e ≡ false → Accounted i e l m) → Accounts i es m r → Accounts i (e ∷ es) l r
+accounts-cons i e es l m r a b h = by (isDone (numberOf Kind.reset) e) (noReset es) refl refl
   where
-    by : (t u : Bool) → isDone 0 e ≡ t → noReset es ≡ u → Accounts i (e ∷ es) l r
+    by : (t u : Bool) → isDone (numberOf Kind.reset) e ≡ t → noReset es ≡ u → Accounts i (e ∷ es) l r
     by true true p s = rw p (rw (s, a p) at h)
     by true false p s = rw p (rw s at h)
     by false true p s =
         let now : Accounted i e l m = b p in
         let later : m ++ accepted i es ≡ takenOut i es ++ r = rw (s, since-all es s) at h in
-        let puts : accepted i (e ∷ es) ≡ accepted i (e ∷ []) ++ accepted i es = first-of (succeeds 6 i e) (e .access .b) (accepted i es) in
-        let takes : takenOut i (e ∷ es) ≡ takenOut i (e ∷ []) ++ takenOut i es = first-of (succeeds 5 i e) (e .answer .v) (takenOut i es) in
+        let puts : accepted i (e ∷ es) ≡ accepted i (e ∷ []) ++ accepted i es = first-of (succeeds (numberOf Kind.put) i e) (e .access .b) (accepted i es) in
+        let takes : takenOut i (e ∷ es) ≡ takenOut i (e ∷ []) ++ takenOut i es = first-of (succeeds (numberOf Kind.take) i e) (e .answer .v) (takenOut i es) in
         rw (p, s) (cc (append-assoc l (accepted i (e ∷ [])) (accepted i es), append-assoc (takenOut i (e ∷ [])) m (accepted i es), append-assoc (takenOut i (e ∷ [])) (takenOut i es) r))
     by false false p s = rw (p, s) (rw s at h)
 
-accounts : (i : ℕ) (w : World) (accesses : List Access) → Accounts i (run access w accesses .entries) (fifo (w .card) i) (fifo (run access w accesses .world .card) i)
+accounts : (i : ℕ) (w : World) (accesses : List Access) → Accounts i (run access w accesses .entries) (entriesOf (w .card .fifos) i) (entriesOf (run access w accesses .world .card .fifos) i)
 accounts i w [] = append-nil _
 accounts i w (q ∷ accesses) =
     accounts-cons i (entryAt access w q) (run access (access w q .world) accesses .entries) _ _ _
     (reset-empties w q i) (one-accounted w q i) (accounts i (access w q .world) accesses)
 
-fresh-empty : (s : Settings) (i : ℕ) → fifo (freshCard s .card) i ≡ []
+fresh-empty : (s : Settings) (i : ℕ) → entriesOf (freshCard s .card .fifos) i ≡ []
 unfolding freshCard
-fresh-empty s i = if-case (λ (m : NewCard). fifo (m .card) i ≡ []) (settingsPass s) _ _ (λ _. all-empty 4 i) (λ _. all-empty 4 i)
+fresh-empty s i = if-case (λ (m : NewCard). entriesOf (m .card .fifos) i ≡ []) (settingsPass s) _ _ (λ _. all-empty 4 i) (λ _. all-empty 4 i)
 
 -- THE LAWS
 
@@ -220,7 +223,7 @@ fresh-empty s i = if-case (λ (m : NewCard). fifo (m .card) i ≡ []) (settingsP
 pub fifo-accounts : (settings : Settings) (shared window : List ℕ) (accesses : List Access) (i : ℕ) →
     let ran = run access (freshWorld settings shared window) accesses in
     let list = sinceReset (ran .entries) in
-    accepted i list ≡ takenOut i list ++ fifo (ran .world .card) i
+    accepted i list ≡ takenOut i list ++ entriesOf (ran .world .card .fifos) i
 fifo-accounts settings shared window accesses i =
     rw (fresh-empty settings i, nothing-before) at (accounts i (freshWorld settings shared window) accesses)
   where
@@ -232,7 +235,7 @@ fifo-accounts settings shared window accesses i =
 pub fifo-counts : (settings : Settings) (shared window : List ℕ) (accesses : List Access) (i : ℕ) →
     let ran = run access (freshWorld settings shared window) accesses in
     let list = sinceReset (ran .entries) in
-    length (accepted i list) ≡ length (takenOut i list) + length (fifo (ran .world .card) i)
+    length (accepted i list) ≡ length (takenOut i list) + length (entriesOf (ran .world .card .fifos) i)
 fifo-counts settings shared window accesses i =
     let ran = run access (freshWorld settings shared window) accesses in
-    ap length (fifo-accounts settings shared window accesses i) ∙ length-append (takenOut i (sinceReset (ran .entries))) (fifo (ran .world .card) i)
+    ap length (fifo-accounts settings shared window accesses i) ∙ length-append (takenOut i (sinceReset (ran .entries))) (entriesOf (ran .world .card .fifos) i)

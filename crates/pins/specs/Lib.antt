@@ -1,2 +1,2 @@
-pub mod Answer
-pub mod Carried
+pub mod Bridge
+pub mod Laws

@@ -2,8 +2,7 @@
 ghost use mathlib.Core.Path.{_≡_};
 ghost use Prim.Native.Nat.{_≤_};
 ghost use Rattle.model.specs.Pins.{lanes16, lanesOf, decode};
-ghost use Rattle.pins.specs.Answer.{decodedAs};
-ghost use Rattle.pins.specs.Carried.{carriedIn};
+ghost use Rattle.pins.specs.Bridge.{decodedAs, carriedIn};
 
 // The number is 0, or that of a refusal.
 pub struct Decoded {
@@ -80,7 +79,7 @@ pub fn decode(mode: u8, pins: u8, dq: u32) -> Decoded
     if mode > 3 || pins > 15 {
         return Decoded {
             number: access::SELECTOR,
-            lanes: 15,
+            lanes: lanes::NO_LANES,
             dword: 0,
         };
     }

@@ -1,2 +1,2 @@
-pub mod Played
-pub mod Progress
+pub mod Bridge
+pub mod Laws

@@ -6,8 +6,9 @@ use Prim.Native.Nat.{ℕ}
 use Rattle.model.specs.Lanes.{readDword}
 use Rattle.model.specs.Sides.{Side, host, local}
 use Rattle.model.specs.Events.{Event}
-use Rattle.model.specs.State.{State, World}
-use Rattle.model.specs.Changes.{Change, allFresh, pushed, popped, flagIs, mailIs, raised, cleared, enablesAre, dmaIs, withRegister, withInterrupts, apply, applyAll, Store, nothing, toShared, toWindow, sharedAfter, windowAfter, Effect, worldAfter}
+use Rattle.model.specs.Interrupts.{onRegister}
+use Rattle.model.specs.State.{State, World, withInterrupts}
+use Rattle.model.specs.Changes.{Change, allFresh, pushed, popped, flagIs, mailIs, raised, cleared, enablesAre, transferIs, apply, applyAll, Store, nothing, toShared, toWindow, sharedAfter, windowAfter, Effect, worldAfter}
 use Rattle.model.specs.TestLaws.{All}
 use Rattle.model.specs.LaneLaws.{Covers, read-write, write-write}
 use Rattle.model.specs.EventLaws.{insert-comm}
@@ -24,7 +25,7 @@ Plain (mailIs side d) = Unit {0}
 Plain (raised side e) = Unit {0}
 Plain (cleared side bits) = ⊥
 Plain (enablesAre side n) = ⊥
-Plain (dmaIs d) = ⊥
+Plain (transferIs d) = ⊥
 
 -- what a step changes: the transfer, and events raised
 abbrev pub Stepwise : Change → Type 0
@@ -36,25 +37,25 @@ Stepwise (mailIs side d) = ⊥
 Stepwise (raised side e) = Unit {0}
 Stepwise (cleared side bits) = ⊥
 Stepwise (enablesAre side n) = ⊥
-Stepwise (dmaIs d) = Unit {0}
+Stepwise (transferIs d) = Unit {0}
 
 raise-raise : (a b : Side) (d e : Event) (s : State) → apply (raised a d) (apply (raised b e) s) ≡ apply (raised b e) (apply (raised a d) s)
-raise-raise host host d e s = ap (λ n. withInterrupts (withRegister host (record { enables = s .interrupts .hint .enables; status = n }) (s .interrupts)) s) (insert-comm (s .interrupts .hint .status) e d)
+raise-raise host host d e s = ap (λ n. withInterrupts (onRegister host (λ r. record { enables = r .enables; status = n }) (s .interrupts)) s) (insert-comm (s .interrupts .hint .status) e d)
 raise-raise host local d e s = refl
 raise-raise local host d e s = refl
-raise-raise local local d e s = ap (λ n. withInterrupts (withRegister local (record { enables = s .interrupts .lint .enables; status = n }) (s .interrupts)) s) (insert-comm (s .interrupts .lint .status) e d)
+raise-raise local local d e s = ap (λ n. withInterrupts (onRegister local (λ r. record { enables = r .enables; status = n }) (s .interrupts)) s) (insert-comm (s .interrupts .lint .status) e d)
 
 swap-one : (c d : Change) → Plain c → Stepwise d → (s : State) → apply c (apply d s) ≡ apply d (apply c s)
 swap-one (pushed i entry) (raised side e) p r s = refl
-swap-one (pushed i entry) (dmaIs t) p r s = refl
+swap-one (pushed i entry) (transferIs t) p r s = refl
 swap-one (popped i) (raised side e) p r s = refl
-swap-one (popped i) (dmaIs t) p r s = refl
+swap-one (popped i) (transferIs t) p r s = refl
 swap-one (flagIs side i b) (raised other e) p r s = refl
-swap-one (flagIs side i b) (dmaIs t) p r s = refl
+swap-one (flagIs side i b) (transferIs t) p r s = refl
 swap-one (mailIs side n) (raised other e) p r s = refl
-swap-one (mailIs side n) (dmaIs t) p r s = refl
+swap-one (mailIs side n) (transferIs t) p r s = refl
 swap-one (raised side e) (raised other f) p r s = raise-raise side other e f s
-swap-one (raised side e) (dmaIs t) p r s = refl
+swap-one (raised side e) (transferIs t) p r s = refl
 
 swap-into : (c : Change) → Plain c → (ds : List Change) → All Stepwise ds → (s : State) → apply c (applyAll ds s) ≡ applyAll ds (apply c s)
 swap-into c p [] r s = refl
@@ -65,34 +66,34 @@ swap-all [] p ds r s = refl
 swap-all (c ∷ cs) p ds r s = ap (applyAll cs) (swap-into c (p .0) ds r s) ∙ swap-all cs (p .1) ds r (apply c s)
 
 -- a plain change leaves the transfer as it is
-keep-one : (c : Change) → Plain c → (s : State) → apply c s .dma ≡ s .dma
+keep-one : (c : Change) → Plain c → (s : State) → apply c s .transfer ≡ s .transfer
 keep-one (pushed i entry) k s = refl
 keep-one (popped i) k s = refl
 keep-one (flagIs side i b) k s = refl
 keep-one (mailIs side d) k s = refl
 keep-one (raised side e) k s = refl
 
-pub keep-dma : (cs : List Change) → All Plain cs → (s : State) → applyAll cs s .dma ≡ s .dma
-keep-dma [] k s = refl
-keep-dma (c ∷ cs) k s = keep-dma cs (k .1) (apply c s) ∙ keep-one c (k .0) s
+pub keep-transfer : (cs : List Change) → All Plain cs → (s : State) → applyAll cs s .transfer ≡ s .transfer
+keep-transfer [] k s = refl
+keep-transfer (c ∷ cs) k s = keep-transfer cs (k .1) (apply c s) ∙ keep-one c (k .0) s
 
 -- what a step leaves as it is: all of the record that the plain accesses look at
 pub record Like (s s′ : State) : Type 0 where
   pub settings : s′ .settings ≡ s .settings
   pub fifos : s′ .fifos ≡ s .fifos
-  pub flags : s′ .flags ≡ s .flags
+  pub arbitration : s′ .arbitration ≡ s .arbitration
   pub mailboxes : s′ .mailboxes ≡ s .mailboxes
 
 like-one : (d : Change) → Stepwise d → (s : State) → Like s (apply d s)
-like-one (raised side e) r s = record { settings = refl; fifos = refl; flags = refl; mailboxes = refl }
-like-one (dmaIs t) r s = record { settings = refl; fifos = refl; flags = refl; mailboxes = refl }
+like-one (raised side e) r s = record { settings = refl; fifos = refl; arbitration = refl; mailboxes = refl }
+like-one (transferIs t) r s = record { settings = refl; fifos = refl; arbitration = refl; mailboxes = refl }
 
 pub like : (ds : List Change) → All Stepwise ds → (s : State) → Like s (applyAll ds s)
-like [] r s = record { settings = refl; fifos = refl; flags = refl; mailboxes = refl }
+like [] r s = record { settings = refl; fifos = refl; arbitration = refl; mailboxes = refl }
 like (d ∷ ds) r s =
     let a = like-one d (r .0) s in
     let b = like ds (r .1) (apply d s) in
-    record { settings = b .settings ∙ a .settings; fifos = b .fifos ∙ a .fifos; flags = b .flags ∙ a .flags; mailboxes = b .mailboxes ∙ a .mailboxes }
+    record { settings = b .settings ∙ a .settings; fifos = b .fifos ∙ a .fifos; arbitration = b .arbitration ∙ a .arbitration; mailboxes = b .mailboxes ∙ a .mailboxes }
 
 -- THE MEMORIES
 

@@ -7,15 +7,16 @@ use mathlib.Core.List.{List, [], _∷_, map}
 use Prim.Native.Nat.{ℕ, zero, suc, _-_, _/_, _<_}
 use native.Mathlib.Nat.{sub-zero}
 use native.Mathlib.Omega.{arith}
-use Rattle.model.specs.State.{Settings, Transfer, Dma, running, World, dmaSound, sound, freshWorld}
-use Rattle.model.specs.Runs.{Entry, run}
-use Rattle.model.specs.Entries.{entryAt}
+use Rattle.model.specs.Settings.{Settings}
+use Rattle.model.specs.Transfer.{Request, Transfer, running, transferSound}
+use Rattle.model.specs.State.{World, sound, freshWorld}
+use Rattle.model.specs.Runs.{Entry, run, entryAt}
 use Rattle.model.specs.Accesses.{Access, Answer, access}
 use Rattle.model.specs.Soundness.{sound-parts, stays-sound, fresh-sound, sound-transfer}
 use Rattle.reordering.specs.Roles.{TransferAction, resets, starts, steps, none, openAfter, countAfter, Role, startOf, stepOf, neither, roleOf, rolesFrom, roles, stepsOf}
 use Rattle.reordering.specs.Reordering.{quiet, actionOf}
 use Rattle.reordering.specs.Moving.{absent, end, same, opened-next}
-use Rattle.reordering.specs.Stepping.{opened, openIn, After, dma-after, follows}
+use Rattle.reordering.specs.Stepping.{opened, openIn, After, transfer-after, follows}
 use Rattle.reordering.specs.Exchange.{fresh-idle}
 
 -- THE STATEMENT
@@ -27,7 +28,7 @@ EndsWithin zero (e ∷ l) = ⊥
 EndsWithin (suc n) (e ∷ l) = ((actionOf e ≡ steps true) × (l ≡ [])) ⊎ ((actionOf e ≡ steps false) × (0 < n) × EndsWithin n l)
 
 -- of every start in the list
-abbrev pub AllEnd : List (Role Transfer (Entry Access Answer)) → Type 0
+abbrev pub AllEnd : List (Role Request (Entry Access Answer)) → Type 0
 AllEnd [] = Unit {0}
 AllEnd (startOf k t e ∷ l) = EndsWithin (t .size / 4) (stepsOf k l) × AllEnd l
 AllEnd (stepOf k e ∷ l) = AllEnd l
@@ -36,12 +37,12 @@ AllEnd (neither e ∷ l) = AllEnd l
 -- ONE TRANSFER
 
 -- with transfer k alone open and `i` of its dwords moved
-module _ (k : ℕ) (t : Transfer) where
-  within : (accesses : List Access) (w : World) (n i : ℕ) → k < n → sound (w .card) ≡ true → w .card .dma ≡ running t i →
+module _ (k : ℕ) (t : Request) where
+  within : (accesses : List Access) (w : World) (n i : ℕ) → k < n → sound (w .card) ≡ true → w .card .transfer ≡ running t i →
       EndsWithin (t .size / 4 - i) (stepsOf k (rolesFrom actionOf n ((k, t) ∷ []) (run access w accesses .entries)))
   within [] w n i l h d = tt
   within (q ∷ accesses) w n i l h d =
-      by (actionOf (entryAt access w q)) refl (dma-after w q) (stays-sound w q h)
+      by (actionOf (entryAt access w q)) refl (transfer-after w q) (stays-sound w q h)
       (λ n j m d′. within accesses (access w q .world) n j m (stays-sound w q h) d′)
     where
       w′ : World
@@ -50,15 +51,15 @@ module _ (k : ℕ) (t : Transfer) where
       rest : List (Entry Access Answer)
       rest = run access (access w q .world) accesses .entries
 
-      less : (w : World) (i : ℕ) → sound (w .card) ≡ true → w .card .dma ≡ running t i → i < t .size / 4
-      less w i h d = sound-transfer t i (subst (λ d. dmaSound d ≡ true) d (sound-parts (w .card) h .dma)) .1
+      less : (w : World) (i : ℕ) → sound (w .card) ≡ true → w .card .transfer ≡ running t i → i < t .size / 4
+      less w i h d = sound-transfer t i (subst (λ d. transferSound d ≡ true) d (sound-parts (w .card) h .transfer)) .1
 
       -- steps of a transfer that is open no more
       over : stepsOf k (rolesFrom actionOf n [] rest) ≡ []
       over = absent actionOf {n = n} {lo = n} k rest l (end {lo = n} (omega arith))
 
-      by : (κ : TransferAction Transfer) → actionOf (entryAt access w q) ≡ κ → After κ (w .card .dma) (access w q .world .card .dma) → sound (access w q .world .card) ≡ true →
-          ((n j : ℕ) → k < n → access w q .world .card .dma ≡ running t j → EndsWithin (t .size / 4 - j) (stepsOf k (rolesFrom actionOf n ((k, t) ∷ []) rest))) →
+      by : (κ : TransferAction Request) → actionOf (entryAt access w q) ≡ κ → After κ (w .card .transfer) (access w q .world .card .transfer) → sound (access w q .world .card) ≡ true →
+          ((n j : ℕ) → k < n → access w q .world .card .transfer ≡ running t j → EndsWithin (t .size / 4 - j) (stepsOf k (rolesFrom actionOf n ((k, t) ∷ []) rest))) →
           EndsWithin (t .size / 4 - i) (stepsOf k (roleOf n ((k, t) ∷ []) κ (entryAt access w q) ∷ rolesFrom actionOf (countAfter n κ) (openAfter (λ u. (n, u)) κ ((k, t) ∷ [])) rest))
       by resets e a s f = rw over tt
       by (starts u) e a s f = absurd (let r = a .0 in let z : _≡_ {A = ℕ} 0 1 = cc in omega arith)
@@ -68,7 +69,7 @@ module _ (k : ℕ) (t : Transfer) where
       by (steps false) e a s f =
           let r : a .0 ≡ t = cc in
           let j : a .1 ≡ i = cc in
-          let d′ : access w q .world .card .dma ≡ running t (suc i) = (let y = a .3 in cc) in
+          let d′ : access w q .world .card .transfer ≡ running t (suc i) = (let y = a .3 in cc) in
           let x = less w i h d in
           let y = less (access w q .world) (suc i) s d′ in
           let m : t .size / 4 - i ≡ suc (t .size / 4 - suc i) = omega arith in
@@ -78,15 +79,15 @@ module _ (k : ℕ) (t : Transfer) where
 -- EVERY TRANSFER OF A LIST
 
 -- at most one transfer is open
-abbrev OpenAs : Dma → List (ℕ × Transfer) → Type 0
+abbrev OpenAs : Transfer → List (ℕ × Request) → Type 0
 OpenAs d o = openIn d ≡ map (λ h. h .1) o
 
-all-end : (accesses : List Access) (w : World) (n : ℕ) (o : List (ℕ × Transfer)) → sound (w .card) ≡ true → OpenAs (w .card .dma) o → AllEnd (rolesFrom actionOf n o (run access w accesses .entries))
+all-end : (accesses : List Access) (w : World) (n : ℕ) (o : List (ℕ × Request)) → sound (w .card) ≡ true → OpenAs (w .card .transfer) o → AllEnd (rolesFrom actionOf n o (run access w accesses .entries))
 all-end [] w n o h u = tt
 all-end (q ∷ accesses) w n o h u =
-    by (actionOf (entryAt access w q)) (dma-after w q) o u (all-end accesses (access w q .world) (countAfter n (actionOf (entryAt access w q))) (openAfter (λ t. (n, t)) (actionOf (entryAt access w q)) o) (stays-sound w q h) (opened-next access actionOf quiet opened follows w q n o u))
+    by (actionOf (entryAt access w q)) (transfer-after w q) o u (all-end accesses (access w q .world) (countAfter n (actionOf (entryAt access w q))) (openAfter (λ t. (n, t)) (actionOf (entryAt access w q)) o) (stays-sound w q h) (opened-next access actionOf quiet opened follows w q n o u))
   where
-    by : (κ : TransferAction Transfer) → After κ (w .card .dma) (access w q .world .card .dma) → (o : List (ℕ × Transfer)) → OpenAs (w .card .dma) o →
+    by : (κ : TransferAction Request) → After κ (w .card .transfer) (access w q .world .card .transfer) → (o : List (ℕ × Request)) → OpenAs (w .card .transfer) o →
         AllEnd (rolesFrom actionOf (countAfter n κ) (openAfter (λ t. (n, t)) κ o) (run access (access w q .world) accesses .entries)) →
         AllEnd (roleOf n o κ (entryAt access w q) ∷ rolesFrom actionOf (countAfter n κ) (openAfter (λ t. (n, t)) κ o) (run access (access w q .world) accesses .entries))
     by resets a o u r = r

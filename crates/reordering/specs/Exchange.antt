@@ -9,26 +9,27 @@ use native.Mathlib.Omega.{arith}
 use lib.Dec.{eqb}
 use borrow.Author.Tests.{lt-ltb, eq-eqb, eqb-true, eqb-false, not-false, not-true}
 use Rattle.model.specs.Choice.{if_then_else_, every}
-use Rattle.model.specs.Checks.{_for_, refusal}
+use Rattle.model.specs.Checks.{_for_, refusal, above, nonzero}
 use Rattle.model.specs.Lanes.{laneBytes}
-use Rattle.model.specs.State.{Settings, Transfer, Dma, idle, running, World, above, dmaSound, settingsPass, NewCard, freshCard, freshWorld}
+use Rattle.model.specs.Settings.{Settings, settingsPass}
+use Rattle.model.specs.Transfer.{Request, Transfer, idle, running, transferSound, pciOf, isIdle}
+use Rattle.model.specs.State.{World, NewCard, freshCard, freshWorld}
 use Rattle.model.specs.Changes.{Effect, worldAfter}
-use Rattle.model.specs.Steps.{pciOf, stepped}
-use Rattle.model.specs.Runs.{Entry, run}
-use Rattle.model.specs.Entries.{entryAt}
-use Rattle.model.specs.Accesses.{Access, Answer, Kind, reset, sharedRead, sharedWrite, windowRead, windowWrite, take, put, claim, release, mailboxWrite, mailboxRead, interruptRead, interruptWrite, line, start, step, externalPin, unknown, kindOf, nonzero, isIdle, rowOf, fit, checks, settled, access}
+use Rattle.model.specs.Steps.{stepped}
+use Rattle.model.specs.Runs.{Entry, run, entryAt}
+use Rattle.model.specs.Accesses.{Access, Answer, Kind, step, kindOf, rowOf, fit, checks, settled, access, numberOf}
 use Rattle.model.specs.TestLaws.{All, no-both, and-left, and-right, or-left, if-case}
 use Rattle.model.specs.CheckLaws.{Pass, pass-refusal}
 use Rattle.model.specs.LaneLaws.{Covers, lane-byte, covers-pci}
-use Rattle.model.specs.KindNumbers.{numberOf, number-at, kind-at}
+use Rattle.model.specs.KindLaws.{number-at, kind-at}
 use Rattle.model.specs.Refusals.{number-is, checks-passed, done-is, refused-is}
 use Rattle.model.specs.Soundness.{sound-parts, fit-parts, stays, stays-fit, done-fit}
 use Rattle.reordering.specs.Roles.{TransferAction, resets, starts, steps, none, roles, moved, Owned}
 use Rattle.reordering.specs.Reordering.{Place, sharedByte, pciByte, Touch, reading, writing, doneTouches, startTouches, inRange, disturbs, quiet, doneAction, actionOf, StepsMove}
 use Rattle.reordering.specs.Moving.{Exchange, Exchanged, moved-same, moved-perm, owned}
 use Rattle.reordering.specs.Commute.{Stepwise, Misses, Like, like, reads-shared, reads-window, swap-effects}
-use Rattle.reordering.specs.Kinds.{PlainKind, plain-effect, plain-changes, plain-dma, plain-fixed, Fixed, same-checks, same-effect}
-use Rattle.reordering.specs.Stepping.{opened, openIn, from-base, InShared, InWindow, step-changes, step-hits, same-step, in-shared, in-window, direction-is, step-misses, After, dma-after, follows, step-open}
+use Rattle.reordering.specs.Kinds.{PlainKind, plain-effect, plain-changes, plain-transfer, plain-fixed, Fixed, same-checks, same-effect}
+use Rattle.reordering.specs.Stepping.{opened, openIn, from-base, InShared, InWindow, step-changes, step-hits, same-step, in-shared, in-window, direction-is, step-misses, After, transfer-after, follows, step-open}
 
 abbrev answerOf : Effect → Answer
 answerOf e = record { number = 0; v = e .v; x = e .x }
@@ -45,7 +46,7 @@ map-every : {A B : Type 0} (p : B → Bool) (f : A → B) (l : List A) → every
 map-every p f [] = refl
 map-every p f (a ∷ l) = ap (p (f a) &&_) (map-every p f l)
 
-module _ (t : Transfer) (q : Access) (r : Answer) (h : quiet t (record { access = q; answer = r }) ≡ true) where
+module _ (t : Request) (q : Access) (r : Answer) (h : quiet t (record { access = q; answer = r }) ≡ true) where
   abbrev still : Touch → Bool
   still touch = not (disturbs t touch)
 
@@ -56,8 +57,8 @@ module _ (t : Transfer) (q : Access) (r : Answer) (h : quiet t (record { access 
   halves = append-every still (startTouches entry) (if eqb (r .number) 0 then doneTouches (kindOf (q .kind)) q else []) h
 
   -- a quiet entry is no start
-  quiet-no-start : q .kind ≢ 14
-  quiet-no-start e = no-both (rw (eq-eqb (q .kind) 14 e) at (halves .0))
+  quiet-no-start : q .kind ≢ numberOf Kind.start
+  quiet-no-start e = no-both (rw (eq-eqb (q .kind) (numberOf Kind.start) e) at (halves .0))
 
   -- and where it is done, nothing that its kind touches disturbs the transfer
   quiet-done : r .number ≡ 0 → (k : Kind) → kindOf (q .kind) ≡ k → every still (doneTouches k q) ≡ true
@@ -72,39 +73,39 @@ module _ (t : Transfer) (q : Access) (r : Answer) (h : quiet t (record { access 
 
 -- DONE STEPS
 
-abbrev isStep : TransferAction Transfer → Bool
+abbrev isStep : TransferAction Request → Bool
 isStep resets = false
 isStep (starts t) = false
 isStep (steps last) = true
 isStep none = false
 
 -- of the kinds only a step steps
-step-kind : (k : Kind) (q : Access) (v : ℕ) → isStep (doneAction k q v) ≡ eqb (numberOf k) 15
-step-kind reset q v = refl
-step-kind sharedRead q v = refl
-step-kind sharedWrite q v = refl
-step-kind windowRead q v = refl
-step-kind windowWrite q v = refl
-step-kind take q v = refl
-step-kind put q v = refl
-step-kind claim q v = refl
-step-kind release q v = refl
-step-kind mailboxWrite q v = refl
-step-kind mailboxRead q v = refl
-step-kind interruptRead q v = refl
-step-kind interruptWrite q v = refl
-step-kind line q v = refl
-step-kind start q v = refl
-step-kind step q v = refl
-step-kind externalPin q v = refl
-step-kind unknown q v = refl
+step-kind : (k : Kind) (q : Access) (v : ℕ) → isStep (doneAction k q v) ≡ eqb (numberOf k) (numberOf Kind.step)
+step-kind Kind.reset q v = refl
+step-kind Kind.sharedRead q v = refl
+step-kind Kind.sharedWrite q v = refl
+step-kind Kind.windowRead q v = refl
+step-kind Kind.windowWrite q v = refl
+step-kind Kind.take q v = refl
+step-kind Kind.put q v = refl
+step-kind Kind.claim q v = refl
+step-kind Kind.release q v = refl
+step-kind Kind.mailboxWrite q v = refl
+step-kind Kind.mailboxRead q v = refl
+step-kind Kind.interruptRead q v = refl
+step-kind Kind.interruptWrite q v = refl
+step-kind Kind.line q v = refl
+step-kind Kind.start q v = refl
+step-kind Kind.step q v = refl
+step-kind Kind.externalPin q v = refl
+step-kind Kind.unknown q v = refl
 
-is-step : (q : Access) (r : Answer) (b : Bool) → actionOf (record { access = q; answer = r }) ≡ steps b → (r .number ≡ 0) × (q .kind ≡ 15)
+is-step : (q : Access) (r : Answer) (b : Bool) → actionOf (record { access = q; answer = r }) ≡ steps b → (r .number ≡ 0) × (q .kind ≡ numberOf Kind.step)
 is-step q r b h = by (eqb (r .number) 0) refl (ap isStep h)
   where
-    by : (x : Bool) → eqb (r .number) 0 ≡ x → isStep (if x then doneAction (kindOf (q .kind)) q (r .v) else none) ≡ true → (r .number ≡ 0) × (q .kind ≡ 15)
+    by : (x : Bool) → eqb (r .number) 0 ≡ x → isStep (if x then doneAction (kindOf (q .kind)) q (r .v) else none) ≡ true → (r .number ≡ 0) × (q .kind ≡ numberOf Kind.step)
     by true e h =
-        let k = eqb-true (numberOf (kindOf (q .kind))) 15 (sym (step-kind (kindOf (q .kind)) q (r .v)) ∙ h) in
+        let k = eqb-true (numberOf (kindOf (q .kind))) (numberOf Kind.step) (sym (step-kind (kindOf (q .kind)) q (r .v)) ∙ h) in
         let m = number-at (q .kind) (kindOf (q .kind)) refl in
         (eqb-true (r .number) 0 e, omega arith)
     by false e h = no-both h
@@ -114,30 +115,30 @@ record Stepped (w : World) (s : Access) : Type 0 where
   fits : fit w ≡ true
   known : (above 16 (s .kind) || above 1 (s .side)) ≡ false
   clean : nonzero (s .s ∷ s .a ∷ s .b ∷ s .c ∷ []) ≡ false
-  busy : isIdle (w .card .dma) ≡ false
+  busy : isIdle (w .card .transfer) ≡ false
 
-step-passed : (w : World) (s : Access) → s .kind ≡ 15 → refusal (checks w s) ≡ 0 → Stepped w s
+step-passed : (w : World) (s : Access) → s .kind ≡ numberOf Kind.step → refusal (checks w s) ≡ 0 → Stepped w s
 step-passed w s k h =
     let p = checks-passed w s h in
-    let q : Pass (rowOf step w s .checks) = subst (λ k. Pass (rowOf k w s .checks)) (ap kindOf k) (p .1 .1) in
+    let q : Pass (rowOf Kind.step w s .checks) = subst (λ k. Pass (rowOf k w s .checks)) (ap kindOf k) (p .1 .1) in
     record { fits = not-false (fit w) (p .0); known = p .1 .0; clean = q .0; busy = q .1 .0 }
 
-step-passes : (w : World) (s : Access) → s .kind ≡ 15 → Stepped w s → refusal (checks w s) ≡ 0
+step-passes : (w : World) (s : Access) → s .kind ≡ numberOf Kind.step → Stepped w s → refusal (checks w s) ≡ 0
 step-passes w s k p =
-    let q : Pass (rowOf step w s .checks) = (p .clean, (p .busy, tt)) in
+    let q : Pass (rowOf Kind.step w s .checks) = (p .clean, (p .busy, tt)) in
     pass-refusal (checks w s) (ap not (p .fits), (p .known, subst (λ k. Pass (rowOf k w s .checks)) (sym (ap kindOf k)) q))
 
-step-is : (w : World) (s : Access) → s .kind ≡ 15 → refusal (checks w s) ≡ 0 → access w s ≡ settled 0 (stepped w (w .card .dma)) w
+step-is : (w : World) (s : Access) → s .kind ≡ numberOf Kind.step → refusal (checks w s) ≡ 0 → access w s ≡ settled 0 (stepped w (w .card .transfer)) w
 step-is w s k h = done-is w s h ∙ ap (λ k. settled 0 (rowOf k w s .effect) w) (ap kindOf k)
 
-stepped-changes : (w : World) (d : Dma) → All Stepwise (stepped w d .changes)
+stepped-changes : (w : World) (d : Transfer) → All Stepwise (stepped w d .changes)
 stepped-changes w idle = tt
 stepped-changes w (running t i) = step-changes w t i
 
-like-after : (w : World) (s : Access) → s .kind ≡ 15 → refusal (checks w s) ≡ 0 → Like (w .card) (access w s .world .card)
+like-after : (w : World) (s : Access) → s .kind ≡ numberOf Kind.step → refusal (checks w s) ≡ 0 → Like (w .card) (access w s .world .card)
 like-after w s k h =
     subst (λ w′. Like (w .card) (w′ .card)) (sym (ap (λ r. r .world) (step-is w s k h)))
-    (like (stepped w (w .card .dma) .changes) (stepped-changes w (w .card .dma)) (w .card))
+    (like (stepped w (w .card .transfer) .changes) (stepped-changes w (w .card .transfer)) (w .card))
 
 -- a done step that does not end its transfer can be done again
 pub step-again : (w : World) (s : Access) → actionOf (entryAt access w s) ≡ steps false → (b : Bool) × (actionOf (entryAt access (access w s .world) s) ≡ steps b)
@@ -145,7 +146,7 @@ step-again w s h =
     let w′ = access w s .world in
     let z = is-step s (access w s .answer) false h in
     let p = step-passed w s (z .1) (sym (number-is w s) ∙ z .0) in
-    let a : After (steps false) (w .card .dma) (w′ .card .dma) = rw h at (dma-after w s) in
+    let a : After (steps false) (w .card .transfer) (w′ .card .transfer) = rw h at (transfer-after w s) in
     let r = step-passes w′ s (z .1) (record { fits = stays-fit w s (p .fits); known = p .known; clean = p .clean; busy = ap isIdle (a .3) }) in
     let v = access w′ s .answer .v in
     (eqb v 2 || eqb v 3 || eqb v 4, rw (number-is w′ s ∙ r, z .1) refl)
@@ -159,14 +160,14 @@ same-refusal o x w w′ l f f′ =
     ∙ ap (λ r. refusal ((2 for c) ∷ r)) (same-checks (kindOf (o .kind)) x w w′ o l)
     ∙ ap (λ b. refusal ((1 for not b) ∷ (2 for c) ∷ rowOf (kindOf (o .kind)) w o .checks)) (sym f)
 
-step-refusal : (o : Access) → o .kind ≡ 15 → (w w′ : World) → fit w ≡ true → fit w′ ≡ true → isIdle (w .card .dma) ≡ false → (n : ℕ) → refusal (checks w o) ≡ suc n → refusal (checks w′ o) ≡ suc n
+step-refusal : (o : Access) → o .kind ≡ numberOf Kind.step → (w w′ : World) → fit w ≡ true → fit w′ ≡ true → isIdle (w .card .transfer) ≡ false → (n : ℕ) → refusal (checks w o) ≡ suc n → refusal (checks w′ o) ≡ suc n
 step-refusal o k w w′ f f′ y n h =
     let c : Bool = above 16 (o .kind) || above 1 (o .side) in
     let u : Bool = nonzero (o .s ∷ o .a ∷ o .b ∷ o .c ∷ []) in
-    let e : (w : World) → fit w ≡ true → refusal (checks w o) ≡ refusal ((2 for c) ∷ (3 for u) ∷ (10 for isIdle (w .card .dma)) ∷ []) = λ w f.
+    let e : (w : World) → fit w ≡ true → refusal (checks w o) ≡ refusal ((2 for c) ∷ (3 for u) ∷ (10 for isIdle (w .card .transfer)) ∷ []) = λ w f.
     ap (λ b. refusal ((1 for not b) ∷ (2 for c) ∷ rowOf (kindOf (o .kind)) w o .checks)) f
     ∙ ap (λ k. refusal ((2 for c) ∷ rowOf k w o .checks)) (ap kindOf k) in
-    e w′ f′ ∙ go c u (isIdle (w .card .dma)) (isIdle (w′ .card .dma)) y (sym (e w f) ∙ h)
+    e w′ f′ ∙ go c u (isIdle (w .card .transfer)) (isIdle (w′ .card .transfer)) y (sym (e w f) ∙ h)
   where
     go : (x y z z′ : Bool) → z ≡ false → refusal ((2 for x) ∷ (3 for y) ∷ (10 for z) ∷ []) ≡ suc n → refusal ((2 for x) ∷ (3 for y) ∷ (10 for z′) ∷ []) ≡ suc n
     go true y z z′ e h = h
@@ -175,27 +176,27 @@ step-refusal o k w w′ f f′ y n h =
     go false false false z′ e h = absurd (omega arith)
 
 -- a refused access, no start, is refused alike before the step
-exchange-refused : (w : World) (o s : Access) (n : ℕ) → o .kind ≢ 14 → refusal (checks w o) ≡ suc n → s .kind ≡ 15 → refusal (checks (access w o .world) s) ≡ 0 → Exchanged access actionOf quiet opened w o s
+exchange-refused : (w : World) (o s : Access) (n : ℕ) → o .kind ≢ numberOf Kind.start → refusal (checks w o) ≡ suc n → s .kind ≡ numberOf Kind.step → refusal (checks (access w o .world) s) ≡ 0 → Exchanged access actionOf quiet opened w o s
 exchange-refused w o s n q e k h =
     let r : access w o .world ≡ w = ap (λ p. p .world) (refused-is w o n e) in
     let hs : refusal (checks w s) ≡ 0 = subst (λ x. refusal (checks x s) ≡ 0) r h in
     let p = step-passed w s k hs in
     let w′ = access w s .world in
-    let again : refusal (checks w′ o) ≡ suc n = by w′ p (like-after w s k hs) (stays-fit w s (p .fits)) (eqb (o .kind) 15) refl in
+    let again : refusal (checks w′ o) ≡ suc n = by w′ p (like-after w s k hs) (stays-fit w s (p .fits)) (eqb (o .kind) (numberOf Kind.step)) refl in
     record {
       step = ap (λ x. access x s .answer) (sym r);
       other = ap (λ p. p .answer) (refused-is w′ o n again) ∙ sym (ap (λ p. p .answer) (refused-is w o n e));
       world = ap (λ p. p .world) (refused-is w′ o n again) ∙ ap (λ x. access x s .world) (sym r);
     }
   where
-    by : (w′ : World) → Stepped w s → Like (w .card) (w′ .card) → fit w′ ≡ true → (b : Bool) → eqb (o .kind) 15 ≡ b → refusal (checks w′ o) ≡ suc n
-    by w′ p l f true x = step-refusal o (eqb-true (o .kind) 15 x) w w′ (p .fits) f (p .busy) n e
-    by w′ p l f false x = same-refusal o (λ y. q (kind-at (o .kind) start (omega arith) y), λ y. eqb-false (o .kind) 15 x (kind-at (o .kind) step (omega arith) y)) w w′ l (p .fits) f ∙ e
+    by : (w′ : World) → Stepped w s → Like (w .card) (w′ .card) → fit w′ ≡ true → (b : Bool) → eqb (o .kind) (numberOf Kind.step) ≡ b → refusal (checks w′ o) ≡ suc n
+    by w′ p l f true x = step-refusal o (eqb-true (o .kind) (numberOf Kind.step) x) w w′ (p .fits) f (p .busy) n e
+    by w′ p l f false x = same-refusal o (λ y. q (kind-at (o .kind) Kind.start (omega arith) y), λ y. eqb-false (o .kind) (numberOf Kind.step) x (kind-at (o .kind) Kind.step (omega arith) y)) w w′ l (p .fits) f ∙ e
 
 -- DONE ACCESSES
 
 -- a quiet access that is done, and no step, is of a plain kind
-plain-kind : (w : World) (o : Access) (t : Transfer) → refusal (checks w o) ≡ 0 → quiet t (entryAt access w o) ≡ true → ((c : Bool) → actionOf (entryAt access w o) ≢ steps c) → PlainKind (kindOf (o .kind))
+plain-kind : (w : World) (o : Access) (t : Request) → refusal (checks w o) ≡ 0 → quiet t (entryAt access w o) ≡ true → ((c : Bool) → actionOf (entryAt access w o) ≢ steps c) → PlainKind (kindOf (o .kind))
 plain-kind w o t h q n = by (kindOf (o .kind)) refl
   where
     z : access w o .answer .number ≡ 0
@@ -205,32 +206,32 @@ plain-kind w o t h q n = by (kindOf (o .kind)) refl
     loud k e = quiet-done t o (access w o .answer) q z k e
 
     by : (k : Kind) → kindOf (o .kind) ≡ k → PlainKind k
-    by reset e = no-both (loud reset e)
-    by sharedRead e = tt
-    by sharedWrite e = tt
-    by windowRead e = tt
-    by windowWrite e = tt
-    by take e = tt
-    by put e = tt
-    by claim e = tt
-    by release e = tt
-    by mailboxWrite e = tt
-    by mailboxRead e = tt
-    by interruptRead e = no-both (loud interruptRead e)
-    by interruptWrite e = no-both (loud interruptWrite e)
-    by line e = no-both (loud line e)
-    by start e = quiet-no-start t o (access w o .answer) q (kind-at (o .kind) start (omega arith) e)
-    by step e =
+    by Kind.reset e = no-both (loud Kind.reset e)
+    by Kind.sharedRead e = tt
+    by Kind.sharedWrite e = tt
+    by Kind.windowRead e = tt
+    by Kind.windowWrite e = tt
+    by Kind.take e = tt
+    by Kind.put e = tt
+    by Kind.claim e = tt
+    by Kind.release e = tt
+    by Kind.mailboxWrite e = tt
+    by Kind.mailboxRead e = tt
+    by Kind.interruptRead e = no-both (loud Kind.interruptRead e)
+    by Kind.interruptWrite e = no-both (loud Kind.interruptWrite e)
+    by Kind.line e = no-both (loud Kind.line e)
+    by Kind.start e = quiet-no-start t o (access w o .answer) q (kind-at (o .kind) Kind.start (omega arith) e)
+    by Kind.step e =
         let v = access w o .answer .v in
         n (eqb v 2 || eqb v 3 || eqb v 4) (rw (z, e) refl)
-    by externalPin e = tt
-    by unknown e =
+    by Kind.externalPin e = tt
+    by Kind.unknown e =
         let p = checks-passed w o h .1 .0 in
-        let l = number-at (o .kind) unknown e in
+        let l = number-at (o .kind) Kind.unknown e in
         no-both (sym p ∙ rw (lt-ltb 16 (o .kind) (omega arith)) refl)
 
-module _ (w : World) (o s : Access) (t : Transfer) (i : ℕ) (at : w .card .dma ≡ running t i) (q : quiet t (entryAt access w o) ≡ true)
-    (e : refusal (checks w o) ≡ 0) (plain : PlainKind (kindOf (o .kind))) (k : s .kind ≡ 15) where
+module _ (w : World) (o s : Access) (t : Request) (i : ℕ) (at : w .card .transfer ≡ running t i) (q : quiet t (entryAt access w o) ≡ true)
+    (e : refusal (checks w o) ≡ 0) (plain : PlainKind (kindOf (o .kind))) (k : s .kind ≡ numberOf Kind.step) where
   abbrev base : ℕ
   base = w .card .settings .base
 
@@ -247,16 +248,16 @@ module _ (w : World) (o s : Access) (t : Transfer) (i : ℕ) (at : w .card .dma 
   fits : fit w ≡ true
   fits = done-fit w o e
 
-  sound-t : dmaSound (running t i) ≡ true
-  sound-t = subst (λ d. dmaSound d ≡ true) at (sound-parts (w .card) (fit-parts w fits .sound) .dma)
+  sound-t : transferSound (running t i) ≡ true
+  sound-t = subst (λ d. transferSound d ≡ true) at (sound-parts (w .card) (fit-parts w fits .sound) .transfer)
 
   -- an access to the window that is done lies in it
-  based : (k : Kind) → (k ≡ windowRead) ⊎ (k ≡ windowWrite) → kindOf (o .kind) ≡ k → base ≤ o .a
+  based : (k : Kind) → (k ≡ Kind.windowRead) ⊎ (k ≡ Kind.windowWrite) → kindOf (o .kind) ≡ k → base ≤ o .a
   based k (inl y) x =
-      let p : Pass (rowOf windowRead w o .checks) = subst (λ k. Pass (rowOf k w o .checks)) (x ∙ y) (checks-passed w o e .1 .1) in
+      let p : Pass (rowOf Kind.windowRead w o .checks) = subst (λ k. Pass (rowOf k w o .checks)) (x ∙ y) (checks-passed w o e .1 .1) in
       from-base (w .card .settings) (o .a) (p .1 .1 .1 .0)
   based k (inr y) x =
-      let p : Pass (rowOf windowWrite w o .checks) = subst (λ k. Pass (rowOf k w o .checks)) (x ∙ y) (checks-passed w o e .1 .1) in
+      let p : Pass (rowOf Kind.windowWrite w o .checks) = subst (λ k. Pass (rowOf k w o .checks)) (x ∙ y) (checks-passed w o e .1 .1) in
       from-base (w .card .settings) (o .a) (p .1 .1 .1 .0)
 
   -- a byte whose writing does not disturb the transfer is of neither range
@@ -274,22 +275,22 @@ module _ (w : World) (o s : Access) (t : Transfer) (i : ℕ) (at : w .card .dma 
   stores-miss : Misses (InShared w t i) (InWindow w t i) (E .store)
   stores-miss =
       plain-effect (Misses (InShared w t i) (InWindow w t i)) tt (kindOf (o .kind)) plain w o
-      (λ x j y z. range-free (sharedByte j) (quiet-byte t o (access w o .answer) q done-o sharedWrite (λ i. writing (sharedByte i)) x refl j y) (in-shared w t i sound-t j (z .1)))
+      (λ x j y z. range-free (sharedByte j) (quiet-byte t o (access w o .answer) q done-o Kind.sharedWrite (λ i. writing (sharedByte i)) x refl j y) (in-shared w t i sound-t j (z .1)))
       (λ x j y z. range-free (pciByte (j + base))
-      (quiet-byte t o (access w o .answer) q done-o windowWrite (λ i. writing (pciByte i)) x refl (j + base) (covers-pci (o .a) base (o .s) j (based windowWrite (inr refl) x) y)) (in-window w t i sound-t (z .0) j (z .1))) .1
+      (quiet-byte t o (access w o .answer) q done-o Kind.windowWrite (λ i. writing (pciByte i)) x refl (j + base) (covers-pci (o .a) base (o .s) j (based Kind.windowWrite (inr refl) x) y)) (in-window w t i sound-t (z .0) j (z .1))) .1
 
   -- what the step stores, the access does not read
   abbrev ReadShared : ℕ → Type 0
-  ReadShared j = (kindOf (o .kind) ≡ sharedRead) × Covers 4 (o .a) (o .s) j
+  ReadShared j = (kindOf (o .kind) ≡ Kind.sharedRead) × Covers 4 (o .a) (o .s) j
 
   abbrev ReadWindow : ℕ → Type 0
-  ReadWindow j = (kindOf (o .kind) ≡ windowRead) × Covers 4 (o .a - base) (o .s) j
+  ReadWindow j = (kindOf (o .kind) ≡ Kind.windowRead) × Covers 4 (o .a - base) (o .s) j
 
   reads-miss : Misses ReadShared ReadWindow (F .store)
   reads-miss =
       step-misses w t i sound-t ReadShared ReadWindow
-      (λ j r d. no-both (sym (quiet-byte t o (access w o .answer) q done-o sharedRead (λ i. reading (sharedByte i)) (r .0) refl j (r .1)) ∙ d))
-      (λ j r d. no-both (sym (quiet-byte t o (access w o .answer) q done-o windowRead (λ i. reading (pciByte i)) (r .0) refl (j + base) (covers-pci (o .a) base (o .s) j (based windowRead (inl refl) (r .0)) (r .1))) ∙ d))
+      (λ j r d. no-both (sym (quiet-byte t o (access w o .answer) q done-o Kind.sharedRead (λ i. reading (sharedByte i)) (r .0) refl j (r .1)) ∙ d))
+      (λ j r d. no-both (sym (quiet-byte t o (access w o .answer) q done-o Kind.windowRead (λ i. reading (pciByte i)) (r .0) refl (j + base) (covers-pci (o .a) base (o .s) j (based Kind.windowRead (inl refl) (r .0)) (r .1))) ∙ d))
 
   -- where the access leads, and where the step leads
   w₁ : World
@@ -302,17 +303,17 @@ module _ (w : World) (o s : Access) (t : Transfer) (i : ℕ) (at : w .card .dma 
   unfolding w₁
   o-is = done-is w o e
 
-  dma₁ : w₁ .card .dma ≡ running t i
+  transfer₁ : w₁ .card .transfer ≡ running t i
   unfolding w₁
-  dma₁ = plain-dma (kindOf (o .kind)) plain w o ∙ at
+  transfer₁ = plain-transfer (kindOf (o .kind)) plain w o ∙ at
 
   settings₁ : w₁ .card .settings ≡ w .card .settings
   settings₁ = subst (λ (x : World). x .card .settings ≡ w .card .settings) (ap (λ p. p .world) o-is) (stays w o .settings)
 
-  step₁ : stepped w₁ (w₁ .card .dma) ≡ F
+  step₁ : stepped w₁ (w₁ .card .transfer) ≡ F
   unfolding w₁
   step₁ =
-      ap (stepped w₁) dma₁
+      ap (stepped w₁) transfer₁
       ∙ same-step w t i w₁ settings₁
       (λ y. reads-shared (InShared w t i) (InWindow w t i) (E .store) stores-miss (w .shared) (t .shared + 4 * i) 0 (λ j z. (y, z)))
       (λ y. reads-window (InShared w t i) (InWindow w t i) (E .store) stores-miss (w .window) (pciOf t i - base) 0 (λ j z. (y, z)))
@@ -365,9 +366,9 @@ module _ (w : World) (o s : Access) (t : Transfer) (i : ℕ) (at : w .card .dma 
 pub exchange : Exchange access actionOf quiet opened
 exchange w o s t q b h n calm k =
     let z = is-step s (access (access w o .world) s .answer) b k in
-    by (w .card .dma) refl h (z .1) (sym (number-is (access w o .world) s) ∙ z .0) (refusal (checks w o)) refl
+    by (w .card .transfer) refl h (z .1) (sym (number-is (access w o .world) s) ∙ z .0) (refusal (checks w o)) refl
   where
-    by : (d : Dma) → w .card .dma ≡ d → openIn d ≡ t ∷ q → s .kind ≡ 15 → refusal (checks (access w o .world) s) ≡ 0 → (m : ℕ) → refusal (checks w o) ≡ m → Exchanged access actionOf quiet opened w o s
+    by : (d : Transfer) → w .card .transfer ≡ d → openIn d ≡ t ∷ q → s .kind ≡ numberOf Kind.step → refusal (checks (access w o .world) s) ≡ 0 → (m : ℕ) → refusal (checks w o) ≡ m → Exchanged access actionOf quiet opened w o s
     by idle g h k z m e = absurd (let z : _≡_ {A = ℕ} 0 1 = cc in omega arith)
     by (running u i) g h k z (suc m) e = exchange-refused w o s m (quiet-no-start t o (access w o .answer) calm) e k z
     by (running u i) g h k z zero e =
@@ -376,9 +377,9 @@ exchange w o s t q b h n calm k =
 
 -- RULE 3
 
-pub fresh-idle : (s : Settings) → openIn (freshCard s .card .dma) ≡ []
+pub fresh-idle : (s : Settings) → openIn (freshCard s .card .transfer) ≡ []
 unfolding freshCard
-fresh-idle s = if-case (λ (m : NewCard). openIn (m .card .dma) ≡ []) (settingsPass s) _ _ (λ _. refl) (λ _. refl)
+fresh-idle s = if-case (λ (m : NewCard). openIn (m .card .transfer) ≡ []) (settingsPass s) _ _ (λ _. refl) (λ _. refl)
 
 pub steps-move : StepsMove access
 steps-move settings shared window accesses = moved-same access actionOf quiet opened follows exchange (freshWorld settings shared window) accesses (fresh-idle settings)

@@ -10,8 +10,7 @@ use native.Mathlib.Omega.{arith}
 use lib.Dec.{eqb}
 use borrow.Author.Tests.{eq-eqb, ne-eqb}
 use Rattle.model.specs.Choice.{if_then_else_}
-use Rattle.model.specs.Runs.{Outcome, Entry, run}
-use Rattle.model.specs.Entries.{entryAt}
+use Rattle.model.specs.Runs.{Outcome, Entry, run, entryAt}
 use Rattle.reordering.specs.Roles.{TransferAction, resets, starts, steps, none, openAfter, countAfter, Role, startOf, stepOf, neither, entryOf, roleOf, rolesFrom, roles, stepsOf, moved, Undisturbed, Owned}
 
 pub same : (k : ℕ) → eqb k k ≡ true

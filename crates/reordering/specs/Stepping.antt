@@ -11,11 +11,13 @@ use Rattle.model.specs.Choice.{if_then_else_}
 use Rattle.model.specs.Checks.{refusal}
 use Rattle.model.specs.Lanes.{readDword}
 use Rattle.model.specs.Events.{dmaComplete, targetAbort, masterAbort}
-use Rattle.model.specs.State.{Settings, Transfer, Dma, idle, running, World, dmaSound}
-use Rattle.model.specs.Changes.{Store, nothing, toShared, toWindow, Effect, done, _storing_, dmaIs, applyAll, raisedInBoth}
-use Rattle.model.specs.Steps.{inAbortRange, outsideWindow, pciOf, copy, copyOf, stepped}
-use Rattle.model.specs.Entries.{entryAt}
-use Rattle.model.specs.Accesses.{Access, Kind, reset, sharedRead, sharedWrite, windowRead, windowWrite, take, put, claim, release, mailboxWrite, mailboxRead, interruptRead, interruptWrite, line, start, step, externalPin, unknown, kindOf, isIdle, rowOf, checks, settled, access}
+use Rattle.model.specs.Settings.{Settings, inAbortRange, outsideWindow}
+use Rattle.model.specs.Transfer.{Request, Transfer, idle, running, transferSound, pciOf, isIdle}
+use Rattle.model.specs.State.{World}
+use Rattle.model.specs.Changes.{Store, nothing, toShared, toWindow, Effect, done, _storing_, transferIs, applyAll, raisedInBoth}
+use Rattle.model.specs.Steps.{copy, copyOf, stepped}
+use Rattle.model.specs.Runs.{entryAt}
+use Rattle.model.specs.Accesses.{Access, Kind, kindOf, rowOf, checks, settled, access}
 use Rattle.model.specs.TestLaws.{All, no-both, and-true, if-case}
 use Rattle.model.specs.CheckLaws.{Pass}
 use Rattle.model.specs.CauseLaws.{placed}
@@ -26,25 +28,25 @@ use Rattle.reordering.specs.Roles.{TransferAction, resets, starts, steps
 use Rattle.reordering.specs.Reordering.{sharedByte, pciByte, inRange, inDestination, quiet, doneAction, actionOf}
 use Rattle.reordering.specs.Moving.{Follows}
 use Rattle.reordering.specs.Commute.{Stepwise, Misses, Hits}
-use Rattle.reordering.specs.Kinds.{plain-dma}
+use Rattle.reordering.specs.Kinds.{plain-transfer}
 
 -- the transfer that runs, if one does
-abbrev pub openIn : Dma → List Transfer
+abbrev pub openIn : Transfer → List Request
 openIn idle = []
 openIn (running t moved) = t ∷ []
 
-abbrev pub opened : World → List Transfer
-opened w = openIn (w .card .dma)
+abbrev pub opened : World → List Request
+opened w = openIn (w .card .transfer)
 
 pub if-same : {A : Type 0} (b : Bool) (x y x′ y′ : A) → (b ≡ true → x ≡ x′) → (b ≡ false → y ≡ y′) → (if b then x else y) ≡ (if b then x′ else y′)
 if-same true x y x′ y′ f g = f refl
 if-same false x y x′ y′ f g = g refl
 
 -- an address in the window is not below its base
-pub from-base : (s : Settings) (at : ℕ) → outsideWindow s at ≡ false → s .base ≤ at
+pub from-base : (s : Settings) (at : ℕ) → outsideWindow s at 4 ≡ false → s .base ≤ at
 from-base s at h = placed at 4 (s .base) (s .base + s .length) h .low
 
-module _ (w : World) (t : Transfer) (i : ℕ) where
+module _ (w : World) (t : Request) (i : ℕ) where
   abbrev at : ℕ
   at = pciOf t i
 
@@ -53,7 +55,7 @@ module _ (w : World) (t : Transfer) (i : ℕ) where
 
   -- the dword is copied: no abort
   abbrev pub Copies : Type 0
-  Copies = (inAbortRange (w .card .settings) (pciOf t i) ≡ false) × (outsideWindow (w .card .settings) (pciOf t i) ≡ false)
+  Copies = (inAbortRange (w .card .settings) (pciOf t i) ≡ false) × (outsideWindow (w .card .settings) (pciOf t i) 4 ≡ false)
 
   -- the bytes of the two memories that the step touches
   abbrev pub InShared : ℕ → Type 0
@@ -68,7 +70,7 @@ module _ (w : World) (t : Transfer) (i : ℕ) where
     step-effect =
         let Q : Effect → Type 0 = λ e. All Stepwise (e .changes) × R (e .store) in
         if-case Q (inAbortRange (w .card .settings) at) _ _ (λ _. ((tt, (tt, (tt, tt))), none))
-        (λ x. if-case Q (outsideWindow (w .card .settings) at) _ _ (λ _. ((tt, (tt, (tt, tt))), none))
+        (λ x. if-case Q (outsideWindow (w .card .settings) at 4) _ _ (λ _. ((tt, (tt, (tt, tt))), none))
         (λ y. if-case Q (eqb (suc i) (t .size / 4)) _ _ (λ _. ((tt, (tt, (tt, tt))), some (x, y))) (λ _. ((tt, tt), some (x, y)))))
 
   pub step-changes : All Stepwise (stepped w (running t i) .changes)
@@ -85,12 +87,12 @@ module _ (w : World) (t : Transfer) (i : ℕ) where
   abbrev plan : Settings → Store → Effect
   plan s store =
       if inAbortRange s (pciOf t i)
-      then done 3 i (dmaIs idle ∷ raisedInBoth targetAbort)
-      else if outsideWindow s (pciOf t i)
-      then done 4 i (dmaIs idle ∷ raisedInBoth masterAbort)
+      then done 3 i (transferIs idle ∷ raisedInBoth targetAbort)
+      else if outsideWindow s (pciOf t i) 4
+      then done 4 i (transferIs idle ∷ raisedInBoth masterAbort)
       else if eqb (suc i) (t .size / 4)
-      then done 2 (suc i) (dmaIs idle ∷ raisedInBoth dmaComplete) storing store
-      else done 1 (suc i) (dmaIs (running t (suc i)) ∷ []) storing store
+      then done 2 (suc i) (transferIs idle ∷ raisedInBoth dmaComplete) storing store
+      else done 1 (suc i) (transferIs (running t (suc i)) ∷ []) storing store
 
   copy-same : (w′ : World) (d x y : ℕ) → readDword (w′ .shared) x 0 ≡ readDword (w .shared) x 0 → readDword (w′ .window) y 0 ≡ readDword (w .window) y 0 → copy w′ d x y ≡ copy w d x y
   copy-same w′ zero x y p q = ap (toShared x 0) q
@@ -103,12 +105,12 @@ module _ (w : World) (t : Transfer) (i : ℕ) where
   same-step w′ e p q =
       ap (λ (s : Settings). plan s (copy w′ (t .direction) (t .shared + 4 * i) (pciOf t i - s .base))) e
       ∙ if-same (inAbortRange (w .card .settings) at) _ _ _ _ (λ _. refl)
-      (λ x. if-same (outsideWindow (w .card .settings) at) _ _ _ _ (λ _. refl)
+      (λ x. if-same (outsideWindow (w .card .settings) at 4) _ _ _ _ (λ _. refl)
       (λ y. let k = copy-same w′ (t .direction) (t .shared + 4 * i) offset (p (x, y)) (q (x, y)) in
-      if-same (eqb (suc i) (t .size / 4)) _ _ _ _ (λ _. ap (λ n. done 2 (suc i) (dmaIs idle ∷ raisedInBoth dmaComplete) storing n) k) (λ _. ap (λ n. done 1 (suc i) (dmaIs (running t (suc i)) ∷ []) storing n) k)))
+      if-same (eqb (suc i) (t .size / 4)) _ _ _ _ (λ _. ap (λ n. done 2 (suc i) (transferIs idle ∷ raisedInBoth dmaComplete) storing n) k) (λ _. ap (λ n. done 1 (suc i) (transferIs (running t (suc i)) ∷ []) storing n) k)))
 
   -- where the transfer is sound, those bytes are of its ranges
-  module _ (h : dmaSound (running t i) ≡ true) where
+  module _ (h : transferSound (running t i) ≡ true) where
     below : 4 * i + 4 ≤ t .size
     below = let l = sound-transfer t i h .1 in omega arith
 
@@ -149,62 +151,62 @@ module _ (w : World) (t : Transfer) (i : ℕ) where
 
 -- THE FIRST LAW
 
-pub idle-is : (d : Dma) → isIdle d ≡ true → d ≡ idle
+pub idle-is : (d : Transfer) → isIdle d ≡ true → d ≡ idle
 idle-is idle h = refl
 idle-is (running t i) h = no-both h
 
 -- what an answered access finds and leaves of the transfer, by its action
-abbrev pub After : TransferAction Transfer → (d d′ : Dma) → Type 0
+abbrev pub After : TransferAction Request → (d d′ : Transfer) → Type 0
 After resets d d′ = d′ ≡ idle
 After (starts t) d d′ = (d ≡ idle) × (d′ ≡ running t 0)
-After (steps last) d d′ = (t : Transfer) × (i : ℕ) × (d ≡ running t i) × (d′ ≡ (if last then idle else running t (suc i)))
+After (steps last) d d′ = (t : Request) × (i : ℕ) × (d ≡ running t i) × (d′ ≡ (if last then idle else running t (suc i)))
 After none d d′ = d′ ≡ d
 
 abbrev ends : ℕ → Bool
 ends v = eqb v 2 || eqb v 3 || eqb v 4
 
-after-step : (w : World) (d : Dma) → isIdle d ≡ false → After (steps (ends (stepped w d .v))) d (applyAll (stepped w d .changes) (w .card) .dma)
+after-step : (w : World) (d : Transfer) → isIdle d ≡ false → After (steps (ends (stepped w d .v))) d (applyAll (stepped w d .changes) (w .card) .transfer)
 after-step w idle h = no-both (sym h)
 after-step w (running t i) h =
-    let Q : Effect → Type 0 = λ e. After (steps (ends (e .v))) (running t i) (applyAll (e .changes) (w .card) .dma) in
+    let Q : Effect → Type 0 = λ e. After (steps (ends (e .v))) (running t i) (applyAll (e .changes) (w .card) .transfer) in
     if-case Q (inAbortRange (w .card .settings) (pciOf t i)) _ _ (λ _. (t, i, refl, refl))
-    (λ x. if-case Q (outsideWindow (w .card .settings) (pciOf t i)) _ _ (λ _. (t, i, refl, refl))
+    (λ x. if-case Q (outsideWindow (w .card .settings) (pciOf t i) 4) _ _ (λ _. (t, i, refl, refl))
     (λ y. if-case Q (eqb (suc i) (t .size / 4)) _ _ (λ _. (t, i, refl, refl)) (λ _. (t, i, refl, refl))))
 
 after-kind : (k : Kind) (w : World) (q : Access) → Pass (rowOf k w q .checks) →
-    After (doneAction k q (rowOf k w q .effect .v)) (w .card .dma) (applyAll (rowOf k w q .effect .changes) (w .card) .dma)
-after-kind reset w q p = refl
-after-kind sharedRead w q p = refl
-after-kind sharedWrite w q p = refl
-after-kind windowRead w q p = refl
-after-kind windowWrite w q p = refl
-after-kind take w q p = plain-dma take tt w q
-after-kind put w q p = plain-dma put tt w q
-after-kind claim w q p = plain-dma claim tt w q
-after-kind release w q p = refl
-after-kind mailboxWrite w q p = plain-dma mailboxWrite tt w q
-after-kind mailboxRead w q p = refl
-after-kind interruptRead w q p = refl
-after-kind interruptWrite w q p = refl
-after-kind line w q p = refl
-after-kind start w q p = (idle-is (w .card .dma) (not-false (isIdle (w .card .dma)) (p .1 .0)), refl)
-after-kind step w q p = after-step w (w .card .dma) (p .1 .0)
-after-kind externalPin w q p = refl
-after-kind unknown w q p = refl
+    After (doneAction k q (rowOf k w q .effect .v)) (w .card .transfer) (applyAll (rowOf k w q .effect .changes) (w .card) .transfer)
+after-kind Kind.reset w q p = refl
+after-kind Kind.sharedRead w q p = refl
+after-kind Kind.sharedWrite w q p = refl
+after-kind Kind.windowRead w q p = refl
+after-kind Kind.windowWrite w q p = refl
+after-kind Kind.take w q p = plain-transfer Kind.take tt w q
+after-kind Kind.put w q p = plain-transfer Kind.put tt w q
+after-kind Kind.claim w q p = plain-transfer Kind.claim tt w q
+after-kind Kind.release w q p = refl
+after-kind Kind.mailboxWrite w q p = plain-transfer Kind.mailboxWrite tt w q
+after-kind Kind.mailboxRead w q p = refl
+after-kind Kind.interruptRead w q p = refl
+after-kind Kind.interruptWrite w q p = refl
+after-kind Kind.line w q p = refl
+after-kind Kind.start w q p = (idle-is (w .card .transfer) (not-false (isIdle (w .card .transfer)) (p .1 .0)), refl)
+after-kind Kind.step w q p = after-step w (w .card .transfer) (p .1 .0)
+after-kind Kind.externalPin w q p = refl
+after-kind Kind.unknown w q p = refl
 
-pub dma-after : (w : World) (q : Access) → After (actionOf (entryAt access w q)) (w .card .dma) (access w q .world .card .dma)
+pub transfer-after : (w : World) (q : Access) → After (actionOf (entryAt access w q)) (w .card .transfer) (access w q .world .card .transfer)
 unfolding access
-dma-after w q = by (refusal (checks w q)) refl
+transfer-after w q = by (refusal (checks w q)) refl
   where
     by : (n : ℕ) → refusal (checks w q) ≡ n →
-        After (actionOf (record { access = q; answer = settled n (rowOf (kindOf (q .kind)) w q .effect) w .answer })) (w .card .dma) (settled n (rowOf (kindOf (q .kind)) w q .effect) w .world .card .dma)
+        After (actionOf (record { access = q; answer = settled n (rowOf (kindOf (q .kind)) w q .effect) w .answer })) (w .card .transfer) (settled n (rowOf (kindOf (q .kind)) w q .effect) w .world .card .transfer)
     by zero h = after-kind (kindOf (q .kind)) w q (checks-passed w q h .1 .1)
     by (suc n) h = rw (eqb·suc-zero n) refl
 
 pub follows : Follows access actionOf quiet opened
-follows w q = by (actionOf (entryAt access w q)) (w .card .dma) (access w q .world .card .dma) (dma-after w q)
+follows w q = by (actionOf (entryAt access w q)) (w .card .transfer) (access w q .world .card .transfer) (transfer-after w q)
   where
-    by : (κ : TransferAction Transfer) (d d′ : Dma) → After κ d d′ → openIn d′ ≡ openAfter (λ u. u) κ (openIn d)
+    by : (κ : TransferAction Request) (d d′ : Transfer) → After κ d d′ → openIn d′ ≡ openAfter (λ u. u) κ (openIn d)
     by resets d d′ h = rw h
     by (starts t) d d′ h = rw (h .0, h .1)
     by (steps true) d d′ h = rw (h .2, h .3)
@@ -214,7 +216,7 @@ follows w q = by (actionOf (entryAt access w q)) (w .card .dma) (access w q .wor
 -- only a running transfer steps
 pub step-open : (w : World) (q : Access) (b : Bool) → actionOf (entryAt access w q) ≡ steps b → opened w ≢ []
 step-open w q b h e =
-    let a : After (steps b) (w .card .dma) (access w q .world .card .dma) = rw h at (dma-after w q) in
-    let r : openIn (w .card .dma) ≡ a .0 ∷ [] = ap openIn (a .2) in
+    let a : After (steps b) (w .card .transfer) (access w q .world .card .transfer) = rw h at (transfer-after w q) in
+    let r : openIn (w .card .transfer) ≡ a .0 ∷ [] = ap openIn (a .2) in
     let z : _≡_ {A = ℕ} 0 1 = cc in
     omega arith

@@ -3,7 +3,7 @@ ghost use mathlib.Core.Path.{_≡_};
 ghost use Prim.Native.Nat.{_+_, _<_, _≤_, _^_};
 ghost use lib.ListN.{length};
 ghost use Rattle.model.specs.Replay.{replayStart};
-ghost use Rattle.standing.specs.Standings.{standingOf};
+ghost use Rattle.standing.specs.Bridge.{standingAs};
 use standing::Standing;
 
 // A chunk is 3,276 records of 20 bytes.
@@ -62,7 +62,7 @@ fn replay_input(
     input: &mut [u8],
     out: &mut [u8],
 ) -> Standing
-    requires { ⌜ standingOf start (now shared) (now window) ≡ replayStart ⌝ }
+    requires { ⌜ standingAs start (now shared) (now window) ≡ replayStart ⌝ }
     requires { ⌜ (length (now input) ≡ 65520) × (length (now out) ≡ 104832) ⌝ }
 {
     let mut standing = start;
@@ -90,6 +90,6 @@ fn main() {
         &mut input,
         &mut out,
     );
-    let end = standing::last_line(standing.stopped, standing.count, &mut out);
+    let end = player::last_line(standing.stopped, standing.count, &mut out);
     io::write_all(1, &out[0..end]);
 }

@@ -71,7 +71,7 @@ fn replay_chunks(
 fn finish(stopped: bool, count: u64, out: &mut [u8])
     requires { ⌜ length (now out) ≡ 104832 ⌝ }
 {
-    let end = standing::last_line(stopped, count, out);
+    let end = player::last_line(stopped, count, out);
     io::write_all(1, &out[0..end]);
 }
 
@@ -102,7 +102,7 @@ fn next_trace(input: &mut [u8], out: &mut [u8]) -> bool
 fn replay_all(input: &mut [u8], out: &mut [u8])
     requires { ⌜ (length (now input) ≡ 65520) × (length (now out) ≡ 104832) ⌝ }
 {
-    let mut turns: u32 = 1000000;
+    let mut turns = testing::TURNS;
     while turns > 0 && next_trace(input, out) {
         turns -= 1;
     }

@@ -5,33 +5,33 @@ ghost use lib.ListN.{length};
 ghost use mathlib.Core.List.{[], _∷_};
 ghost use Rattle.model.specs.Text.{decimalText, fieldText, lineText, endText, logText};
 ghost use Rattle.model.specs.TextLaws.{twoDigits};
-ghost use Rattle.report.specs.Put.{Put};
+ghost use Rattle.report.specs.Bridge.{Written};
 
-fn put_byte(out: &mut [u8], at: usize, b: u8) -> usize
+fn write_byte(out: &mut [u8], at: usize, b: u8) -> usize
     requires { ⌜ at < length (now out) ⌝ }
-    ensures { λ p. ⌜ Put (now (out .entry)) at (b ∷ []) p (now (out .exit)) ⌝ }
+    ensures { λ p. ⌜ Written (now (out .entry)) at (b ∷ []) p (now (out .exit)) ⌝ }
 {
     out[at] = b;
     at + 1
 }
 
-fn put_word(out: &mut [u8], at: usize, word: &[u8]) -> usize
+fn write_word(out: &mut [u8], at: usize, word: &[u8]) -> usize
     requires { ⌜ at + length (now word) ≤ length (now out) ⌝ }
-    ensures { λ p. ⌜ Put (now (out .entry)) at (now (word .entry)) p (now (out .exit)) ⌝ }
+    ensures { λ p. ⌜ Written (now (out .entry)) at (now (word .entry)) p (now (out .exit)) ⌝ }
 {
     let mut p = at;
     let mut i = 0;
     while i < word.len() {
-        p = put_byte(out, p, word[i]);
+        p = write_byte(out, p, word[i]);
         i += 1;
     }
     p
 }
 
-fn put_two_digits(out: &mut [u8], at: usize, n: u64) -> usize
+fn write_two_digits(out: &mut [u8], at: usize, n: u64) -> usize
     requires { ⌜ n < 100 ⌝ }
     requires { ⌜ at + 2 ≤ length (now out) ⌝ }
-    ensures { λ p. ⌜ Put (now (out .entry)) at (twoDigits n) p (now (out .exit)) ⌝ }
+    ensures { λ p. ⌜ Written (now (out .entry)) at (twoDigits n) p (now (out .exit)) ⌝ }
 {
     out[at] = b'0' + (n / 10) as u8;
     out[at + 1] = b'0' + (n % 10) as u8;
@@ -52,65 +52,65 @@ fn digits(n: u64) -> usize
 }
 
 // From the back, two digits a turn: half the divisions of one digit a turn, and no call for each of them.
-fn put_decimal(out: &mut [u8], at: usize, n: u64) -> usize
+fn write_decimal(out: &mut [u8], at: usize, n: u64) -> usize
     requires { ⌜ at + length (decimalText n) ≤ length (now out) ⌝ }
-    ensures { λ p. ⌜ Put (now (out .entry)) at (decimalText n) p (now (out .exit)) ⌝ }
+    ensures { λ p. ⌜ Written (now (out .entry)) at (decimalText n) p (now (out .exit)) ⌝ }
 {
     let end = at + digits(n);
     let mut left = n;
     let mut p = end;
     while left >= 100 {
         p -= 2;
-        put_two_digits(out, p, left % 100);
+        write_two_digits(out, p, left % 100);
         left /= 100;
     }
     if left >= 10 {
-        put_two_digits(out, at, left);
+        write_two_digits(out, at, left);
         return end;
     }
-    put_byte(out, at, b'0' + left as u8);
+    write_byte(out, at, b'0' + left as u8);
     end
 }
 
-fn put_field(out: &mut [u8], at: usize, n: u64, after: u8) -> usize
+fn write_field(out: &mut [u8], at: usize, n: u64, after: u8) -> usize
     requires { ⌜ at + length (decimalText n) < length (now out) ⌝ }
-    ensures { λ p. ⌜ Put (now (out .entry)) at (fieldText n after) p (now (out .exit)) ⌝ }
+    ensures { λ p. ⌜ Written (now (out .entry)) at (fieldText n after) p (now (out .exit)) ⌝ }
     ensures { λ p. ⌜ p ≡ at + length (decimalText n) + 1 ⌝ }
 {
-    let p = put_decimal(out, at, n);
-    put_byte(out, p, after)
+    let p = write_decimal(out, at, n);
+    write_byte(out, p, after)
 }
 
 // The line of an answered record: at most 5, 3, 10 and 10 digits, each number with the byte after it.
-pub fn put_line(out: &mut [u8], at: usize, number: u16, answer: u8, v: u32, x: u32) -> usize
+pub fn write_line(out: &mut [u8], at: usize, number: u16, answer: u8, v: u32, x: u32) -> usize
     requires { ⌜ at + 32 ≤ length (now out) ⌝ }
-    ensures { λ p. ⌜ Put (now (out .entry)) at (lineText number answer v x) p (now (out .exit)) ⌝ }
+    ensures { λ p. ⌜ Written (now (out .entry)) at (lineText number answer v x) p (now (out .exit)) ⌝ }
     ensures { λ p. ⌜ p ≤ at + 32 ⌝ }
 {
-    let p1 = put_field(out, at, number as u64, b' ');
-    let p2 = put_field(out, p1, answer as u64, b' ');
-    let p3 = put_field(out, p2, v as u64, b' ');
-    put_field(out, p3, x as u64, b'\n')
+    let p1 = write_field(out, at, number as u64, b' ');
+    let p2 = write_field(out, p1, answer as u64, b' ');
+    let p3 = write_field(out, p2, v as u64, b' ');
+    write_field(out, p3, x as u64, b'\n')
 }
 
 // "`log R at N` instead, N the records answered": at most 3 and 20 digits.
-pub fn put_log(out: &mut [u8], at: usize, r: u8, n: u64) -> usize
+pub fn write_log(out: &mut [u8], at: usize, r: u8, n: u64) -> usize
     requires { ⌜ at + 32 ≤ length (now out) ⌝ }
-    ensures { λ p. ⌜ Put (now (out .entry)) at (logText r n) p (now (out .exit)) ⌝ }
+    ensures { λ p. ⌜ Written (now (out .entry)) at (logText r n) p (now (out .exit)) ⌝ }
     ensures { λ p. ⌜ p ≤ at + 32 ⌝ }
 {
-    let p1 = put_word(out, at, b"log ");
-    let p2 = put_field(out, p1, r as u64, b' ');
-    let p3 = put_word(out, p2, b"at ");
-    put_field(out, p3, n, b'\n')
+    let p1 = write_word(out, at, b"log ");
+    let p2 = write_field(out, p1, r as u64, b' ');
+    let p3 = write_word(out, p2, b"at ");
+    write_field(out, p3, n, b'\n')
 }
 
 // "then `end` and the count of records": at most 20 digits.
-pub fn put_end(out: &mut [u8], at: usize, n: u64) -> usize
+pub fn write_end(out: &mut [u8], at: usize, n: u64) -> usize
     requires { ⌜ at + 25 ≤ length (now out) ⌝ }
-    ensures { λ p. ⌜ Put (now (out .entry)) at (endText n) p (now (out .exit)) ⌝ }
+    ensures { λ p. ⌜ Written (now (out .entry)) at (endText n) p (now (out .exit)) ⌝ }
     ensures { λ p. ⌜ p ≤ at + 25 ⌝ }
 {
-    let p1 = put_word(out, at, b"end ");
-    put_field(out, p1, n, b'\n')
+    let p1 = write_word(out, at, b"end ");
+    write_field(out, p1, n, b'\n')
 }

@@ -1,5 +1,5 @@
 -- The code's settings in the model's words.
-use Rattle.model.specs.State as model
+use Rattle.model.specs.Settings as model
 use Rattle.settings.specs.declared.Settings.{Settings}
 
 abbrev pub settingsAs : Settings → model.Settings

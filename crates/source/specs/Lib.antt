@@ -1,2 +1,2 @@
-pub mod LentParts
-pub mod PartLaws
+pub mod Bridge
+pub mod Laws

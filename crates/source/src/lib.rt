@@ -5,32 +5,32 @@ ghost use Prim.Native.Nat.{ℕ};
 ghost use lib.ListN.{length};
 ghost use denote.Ref.{ptr};
 ghost use Rattle.model.specs.Checks.{refusal};
-ghost use Rattle.model.specs.Accesses.{transferOf};
+ghost use Rattle.model.specs.Transfer.{requestOf};
 ghost use Rattle.model.specs.Source.{sourceChecks, source};
 ghost use Rattle.settings.specs.Bridge.{settingsAs};
-ghost use Rattle.dma.specs.Bridge.{transferAs};
-ghost use Rattle.source.specs.LentParts.{lentPart};
-use dma::Transfer;
+ghost use Rattle.transfer.specs.Bridge.{requestAs};
+ghost use Rattle.source.specs.Bridge.{lentPart};
 use settings::Settings;
+use transfer::Request;
 
 // "Any of causes 1, 4, 7, 8, 9 refuses .. here 9 also covers a window source not wholly in the window": the smallest, else 0. `shared` and
 // `window` are the memories' lengths.
-fn refusal_of(settings: Settings, transfer: Transfer, shared: usize, window: usize) -> u8
-    ensures { λ r. ⌜ ((m w : List ℕ) → shared ≡ length m → window ≡ length w → r ≡ refusal (sourceChecks (settingsAs settings) m w (transferAs transfer))) ⌝ }
+fn refusal_of(settings: Settings, request: Request, shared: usize, window: usize) -> u8
+    ensures { λ r. ⌜ ((m w : List ℕ) → shared ≡ length m → window ≡ length w → r ≡ refusal (sourceChecks (settingsAs settings) m w (requestAs request))) ⌝ }
 {
     let fit = settings.pass() & settings.lengths_fit(shared, window);
-    let outside = settings.outside_window(transfer.pci, transfer.size);
-    let number = transfer.refusal();
+    let outside = settings.outside_window(request.pci, request.size);
+    let number = request.refusal();
     access::when(
         access::UNFIT,
         !fit,
         access::when(
             access::SELECTOR,
-            1 < transfer.direction,
+            1 < request.direction,
             access::when(
                 number,
                 number != 0,
-                access::when(access::ADDRESS, (transfer.direction == 0) & outside, 0),
+                access::when(access::ADDRESS, (request.direction == 0) & outside, 0),
             ),
         ),
     )
@@ -47,15 +47,15 @@ pub fn source<'a>(
     c: u32,
 ) -> &'a [u8]
     ensures { λ r. ⌜ record { at = ptr r; bytes = now r }
-        ≡ lentPart (shared .entry) (window .entry) (source (settingsAs settings) (now (shared .entry)) (now (window .entry)) (transferOf direction a b c)) ⌝ }
+        ≡ lentPart (shared .entry) (window .entry) (source (settingsAs settings) (now (shared .entry)) (now (window .entry)) (requestOf direction a b c)) ⌝ }
 {
-    let transfer = Transfer {
+    let request = Request {
         direction: direction,
         shared: a,
         pci: b,
         size: c,
     };
-    let number = refusal_of(settings, transfer, shared.len(), window.len());
+    let number = refusal_of(settings, request, shared.len(), window.len());
     if number != 0 {
         return &shared[0..0];
     }

@@ -1,10 +1,12 @@
-// Document 01, "Trace and replay": where a replay stands, where it starts, and how it ends.
+// Document 01, "Trace and replay": where a replay stands, where it starts, and a record of it answered.
 ghost use mathlib.Core.Path.{_≡_};
-ghost use Prim.Native.Nat.{_≤_};
-ghost use lib.ListN.{length};
-ghost use Rattle.model.specs.Replay.{replayStart, lastText};
-ghost use Rattle.report.specs.Put.{Put};
-ghost use Rattle.standing.specs.Standings.{standingOf, zeros};
+ghost use mathlib.Core.List.{List};
+ghost use Prim.Native.Nat.{ℕ, _+_, _<_, _^_};
+ghost use Rattle.model.specs.Replay.{stop, replayStart};
+ghost use Rattle.access.specs.Bridge.{accessAs};
+ghost use Rattle.standing.specs.Bridge.{standingAs, performed, performedAs, zeros};
+use access::Access;
+use access::Answer;
 use card::Card;
 use settings::Settings;
 
@@ -14,6 +16,12 @@ pub struct Standing {
     pub expected: u16,
     pub count: u64,
     pub stopped: bool,
+}
+
+// What a record gives: the answer of its access, and where the replay stands then.
+pub struct Performed {
+    pub answer: Answer,
+    pub standing: Standing,
 }
 
 // "On zeroed memories": the shared memory, and the window.
@@ -31,7 +39,7 @@ pub fn window_memory() -> [u8; 32768]
 
 // "Base 268,435,456, length 32,768, abort range 28,672 to 32,768"; "numbers start at 0".
 pub fn start() -> Standing
-    ensures { λ r. ⌜ standingOf r (zeros 16384) (zeros 32768) ≡ replayStart ⌝ }
+    ensures { λ r. ⌜ standingAs r (zeros 16384) (zeros 32768) ≡ replayStart ⌝ }
 {
     let settings = Settings {
         base: 268435456,
@@ -49,15 +57,34 @@ pub fn start() -> Standing
     }
 }
 
-// "Then `end` and the count of records", unless the reader refused one.
-pub fn last_line(stopped: bool, count: u64, out: &mut [u8]) -> usize
-    requires { ⌜ 25 ≤ length (now out) ⌝ }
-    ensures { λ r. ⌜ Put (now (out .entry)) 0 (lastText stopped count) r (now (out .exit)) ⌝ }
-    ensures { λ r. ⌜ r ≤ 25 ⌝ }
-{
-    if stopped {
-        0
-    } else {
-        report::put_end(out, 0, count)
+impl Standing {
+    // One record, its access at hand: answered by the card, and number and count moved on.
+    pub fn perform(self, shared: &mut [u8], window: &mut [u8], q: Access) -> Performed
+        requires { ⌜ self .count + 1 < 2 ^ 64 ⌝ }
+        ensures { λ r. ⌜ performedAs r (now (shared .exit)) (now (window .exit)) ≡ performed (standingAs self (now (shared .entry)) (now (window .entry))) (accessAs q) ⌝ }
+    {
+        let card = self.card;
+        let outcome = device::access(card, shared, window, q);
+        let left = outcome.card;
+        let answer = outcome.answer;
+        let standing = Standing {
+            card: left,
+            expected: trace::next_number(self.expected),
+            count: self.count + 1,
+            stopped: self.stopped,
+        };
+        Performed {
+            answer: answer,
+            standing: standing,
+        }
+    }
+
+    // "And stops."
+    pub fn stop(self) -> Standing
+        ensures { λ r. ⌜ ((m w : List ℕ) → standingAs r m w ≡ stop (standingAs self m w)) ⌝ }
+    {
+        let mut standing = self;
+        standing.stopped = true;
+        standing
     }
 }

@@ -1,2 +1,2 @@
-pub mod Readings
-pub mod Fields
+pub mod Bridge
+pub mod Laws

@@ -1,13 +1,13 @@
 // The trace reader: one record of 20 bytes against the expected record number.
 ghost use mathlib.Core.Path.{_≡_};
-ghost use mathlib.Core.Bool.{_&&_};
-ghost use Prim.Native.Nat.{_+_, _*_, _≤_};
+ghost use mathlib.Core.List.{[], _∷_};
+ghost use Prim.Native.Nat.{_+_, _≤_};
 ghost use lib.ListN.{length};
-ghost use lib.Dec.{eqb};
 ghost use Rattle.model.specs.Checks.{refusal};
-ghost use Rattle.model.specs.Trace.{traceChecks, accessAt, readRecord, nextNumber};
-ghost use Rattle.access.specs.Words.{accessOf};
-ghost use Rattle.trace.specs.Readings.{readOf};
+ghost use Rattle.model.specs.Lanes.{dwordOf};
+ghost use Rattle.model.specs.Trace.{numberAt, traceChecks, accessAt, readRecord, nextNumber};
+ghost use Rattle.access.specs.Bridge.{accessAs};
+ghost use Rattle.trace.specs.Bridge.{readAs, damage};
 use access::Access;
 
 // "The trace reader answers a record or a refusal": the refusal's number alone.
@@ -16,62 +16,77 @@ pub enum Read {
     Refused(u8),
 }
 
+// "Each record has 20 bytes", and begins with "the two-byte mark".
+const RECORD_LENGTH: usize = 20;
+
+const MARK: [u8; 2] = [0x42, 0x50];
+
 // The number of two bytes, "least byte first".
 fn number_of(low: u8, high: u8) -> u16
-    ensures { λ r. ⌜ r ≡ low + 256 * (high + 256 * 0) ⌝ }
+    ensures { λ r. ⌜ r ≡ dwordOf (low ∷ high ∷ []) ⌝ }
 {
     low as u16 + 256 * (high as u16)
 }
 
-// "The two-byte mark 0x42 0x50."
-fn is_mark(first: u8, second: u8) -> bool
-    ensures { λ r. ⌜ r ≡ (eqb first 0x42 && eqb second 0x50) ⌝ }
+// The number of four bytes, "least byte first".
+fn number_at(bytes: &[u8], at: usize) -> u32
+    requires { ⌜ at + 4 ≤ length (now bytes) ⌝ }
+    ensures { λ r. ⌜ r ≡ numberAt 4 at (now (bytes .entry)) ⌝ }
 {
-    first == 0x42 && second == 0x50
+    lanes::dword_of(lanes::bytes_at(bytes, at))
+}
+
+// Whether a whole record stands at the start of the bytes, whatever its number: 0, or cause 20, 21 or 23.
+fn damage(bytes: &[u8]) -> u8
+    ensures { λ r. ⌜ r ≡ damage (now (bytes .entry)) ⌝ }
+{
+    if bytes.len() < RECORD_LENGTH {
+        return access::SHORT_RECORD;
+    }
+    let marked = (bytes[0] == MARK[0]) & (bytes[1] == MARK[1]);
+    let nonzero = bytes[7] != 0;
+    access::when(
+        access::WRONG_MARK,
+        !marked,
+        access::when(access::ZERO_BYTE, nonzero, 0),
+    )
 }
 
 // "20 fewer than 20 bytes, 21 wrong mark, 22 unexpected record number, 23 byte 7 not zero, in that order"; else 0.
 fn refusal_of(bytes: &[u8], expected: u16) -> u8
     ensures { λ r. ⌜ r ≡ refusal (traceChecks (now (bytes .entry)) expected) ⌝ }
 {
-    if bytes.len() < 20 {
-        return access::SHORT_RECORD;
+    let damage = damage(bytes);
+    if damage == access::SHORT_RECORD {
+        return damage;
     }
-    let marked = is_mark(bytes[0], bytes[1]);
+    let unmarked = damage == access::WRONG_MARK;
     let unexpected = number_of(bytes[2], bytes[3]) != expected;
-    let nonzero = bytes[7] != 0;
     access::when(
         access::WRONG_MARK,
-        !marked,
-        access::when(
-            access::RECORD_NUMBER,
-            unexpected,
-            access::when(access::ZERO_BYTE, nonzero, 0),
-        ),
+        unmarked,
+        access::when(access::RECORD_NUMBER, unexpected, damage),
     )
 }
 
 // What a whole record says.
 fn access_of(bytes: &[u8]) -> Access
     requires { ⌜ 20 ≤ length (now bytes) ⌝ }
-    ensures { λ r. ⌜ accessOf r ≡ accessAt (now (bytes .entry)) ⌝ }
+    ensures { λ r. ⌜ accessAs r ≡ accessAt (now (bytes .entry)) ⌝ }
 {
-    let a = lanes::read_dword(bytes, 8, 0);
-    let b = lanes::read_dword(bytes, 12, 0);
-    let c = lanes::read_dword(bytes, 16, 0);
     Access {
         kind: bytes[4],
         side: bytes[5],
         s: bytes[6],
-        a,
-        b,
-        c,
+        a: number_at(bytes, 8),
+        b: number_at(bytes, 12),
+        c: number_at(bytes, 16),
     }
 }
 
 // Reads the first 20 bytes; what follows them is not looked at.
 pub fn read_record(bytes: &[u8], expected: u16) -> Read
-    ensures { λ r. ⌜ readOf r ≡ readRecord (now (bytes .entry)) expected ⌝ }
+    ensures { λ r. ⌜ readAs r ≡ readRecord (now (bytes .entry)) expected ⌝ }
 {
     let number = refusal_of(bytes, expected);
     if number != 0 {

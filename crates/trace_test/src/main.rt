@@ -1,22 +1,11 @@
 // Runs the trace reader on the cases of standard input: 44 bytes each, the expected number, how many bytes are read, and 40 bytes that begin with those, as the independent program wrote them.
 use access::Access;
+use testing::show;
 use trace::Read;
-
-// A number, and the byte after it.
-fn show(n: u64, after: u8) {
-    let last = [after];
-    io::print_decimal(1, n);
-    io::write_all(1, &last);
-}
 
 // Where the bytes of a case end.
 fn end_of(length: u8) -> usize {
     4 + length as usize
-}
-
-// A number of two bytes, least byte first.
-fn number_of(low: u8, high: u8) -> u16 {
-    low as u16 + 256 * (high as u16)
 }
 
 fn show_access(a: Access) {
@@ -43,19 +32,18 @@ fn show_read(case: &[u8], end: usize, expected: u16) {
 // Reads a case and writes what the reader answers, and the number after the expected one; false where the input ends.
 fn run_case() -> bool {
     let mut case = [0u8; 44];
-    if io::read_full(0, &mut case) < 44 {
+    if !testing::read_bytes(&mut case) {
         return false;
     }
-    let expected = number_of(case[0], case[1]);
+    let expected = (testing::number_at(&case, 0) % 65536) as u16;
     let end = end_of(case[2]);
     show_read(&case, end, expected);
     show(trace::next_number(expected) as u64, b'\n');
     true
 }
 
-// The turns are counted, since nothing says that the input ends.
 fn main() {
-    let mut turns: u32 = 1000000;
+    let mut turns = testing::TURNS;
     while turns > 0 && run_case() {
         turns -= 1;
     }

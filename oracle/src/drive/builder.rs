@@ -7,7 +7,7 @@ use crate::world::World;
 
 use super::coverage::{Coverage, Observed};
 use super::faults;
-use super::plans::Plan;
+use super::plans::{Faults, Plan};
 use super::sides::{by_both, HOST, LOCAL};
 
 pub struct Builder<'a> {
@@ -36,7 +36,7 @@ impl<'a> Builder<'a> {
     /// faults spread among them.
     pub fn follow(&mut self, plan: &Plan, length: usize) {
         let mut faults = Vec::new();
-        if let Some((part, parts)) = plan.faults {
+        if let Some(Faults { part, parts }) = plan.faults {
             let all = faults::faults(&self.settings(), &mut self.rng);
             faults = all.into_iter().skip(part).step_by(parts).collect();
         }

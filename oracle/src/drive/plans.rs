@@ -8,8 +8,7 @@ use crate::settings::Settings;
 use crate::transfer::{Running, Transfer, SHARED_LENGTH};
 use crate::world::World;
 
-use super::builder::Builder;
-use super::scripts::{self, memories, registers, transfers};
+use super::scripts::{self, memories, registers, transfers, Script};
 
 /// What a list starts from.
 pub enum First {
@@ -18,12 +17,25 @@ pub enum First {
 }
 
 pub struct Plan {
+    /// What the list shows.
+    pub name: &'static str,
     pub first: First,
     pub shared_length: u32,
     pub window_length: u32,
-    pub script: fn(&mut Builder),
-    /// Which part of the faults is spread over the list, and of how many parts.
-    pub faults: Option<(usize, usize)>,
+    pub script: Script,
+    /// The faults that are spread over the list.
+    pub faults: Option<Faults>,
+}
+
+/// One part of all faults, of so many.
+#[derive(Clone, Copy)]
+pub struct Faults {
+    pub part: usize,
+    pub parts: usize,
+}
+
+impl Faults {
+    pub const ALL: Faults = Faults { part: 0, parts: 1 };
 }
 
 impl First {
@@ -68,81 +80,115 @@ const NO_WINDOW: Settings = Settings::new(0x1000_0000, 0, 0, 0);
 /// hi is above the length.
 const FAILING: Settings = Settings::new(0x1000_0000, 64, 0, 68);
 
+/// The lists that had numbers before they had names. Their seeds are those numbers.
+pub const NUMBERED: [&str; 24] = [
+    "MemoryBorders",
+    "AbortRangeAtWindowEnd",
+    "InboundPostOverflow",
+    "InboundFreeOverflow",
+    "CardFoundAtWork",
+    "EveryEventCleared",
+    "ClaimsAndReleases",
+    "MailboxesAndLabels",
+    "EventsAndLines",
+    "AbortRangeInWindow",
+    "AbortRangeWholeWindow",
+    "WindowTooShort",
+    "WindowAtLastAddress",
+    "WindowAtAddressZero",
+    "StartChecks",
+    "StartsAtBounds",
+    "LaneMasks",
+    "EmptyWindow",
+    "AllZeroSettings",
+    "OutboundPostOverflow",
+    "FailingSettings",
+    "OneEntryTooMany",
+    "DirectionOfTwo",
+    "SharedTooShort",
+];
+
+/// So many parts the faults are dealt out in. A list that takes faults names its part, so that the
+/// parts of the others stay as they are.
+const FAULT_PARTS: usize = 15;
+
+/// All lists. A new one may stand anywhere.
 pub fn plans() -> Vec<Plan> {
-    let mut plans = vec![
-        plan(Settings::REPLAY, memories::borders),
-        plan(Settings::REPLAY, transfers::abort_range),
-        without_faults(plan(MIDDLE, registers::inbound_post)),
-        without_faults(plan(SMALL, registers::inbound_free)),
-        record(found(), registers::found),
-        without_faults(record(every_event(), registers::clearing)),
-        plan(Settings::REPLAY, registers::flags),
-        plan(NO_ABORT, registers::mailboxes),
-        plan(MIDDLE, registers::interrupts),
-        plan(MIDDLE, transfers::abort_range),
-        plan(ALL_ABORT, transfers::abort_range),
-        without_faults(Plan {
+    vec![
+        plan("MemoryBorders", Settings::REPLAY, memories::borders).with_faults(0),
+        plan(
+            "AbortRangeAtWindowEnd",
+            Settings::REPLAY,
+            transfers::abort_range,
+        )
+        .with_faults(1),
+        plan("InboundPostOverflow", MIDDLE, registers::inbound_post),
+        plan("InboundFreeOverflow", SMALL, registers::inbound_free),
+        record("CardFoundAtWork", found(), registers::found).with_faults(2),
+        record("EveryEventCleared", every_event(), registers::clearing),
+        plan("ClaimsAndReleases", Settings::REPLAY, registers::flags).with_faults(3),
+        plan("MailboxesAndLabels", NO_ABORT, registers::mailboxes).with_faults(4),
+        plan("EventsAndLines", MIDDLE, registers::interrupts).with_faults(5),
+        plan("AbortRangeInWindow", MIDDLE, transfers::abort_range).with_faults(6),
+        plan("AbortRangeWholeWindow", ALL_ABORT, transfers::abort_range).with_faults(7),
+        Plan {
             window_length: MIDDLE.length - 4,
-            ..record(found(), scripts::all_refused)
-        }),
-        plan(TOP, transfers::window_borders),
-        plan(BASE_ZERO, transfers::window_borders),
-        plan(NO_ABORT, transfers::start_checks),
-        plan(TOP_MIDDLE, transfers::starts),
-        plan(SMALL, memories::lanes),
-        plan(NO_WINDOW, scripts::no_window),
-        plan(Settings::ZERO, scripts::no_window),
-        without_faults(Plan {
+            ..record("WindowTooShort", found(), scripts::all_refused)
+        },
+        plan("WindowAtLastAddress", TOP, transfers::window_borders).with_faults(8),
+        plan("WindowAtAddressZero", BASE_ZERO, transfers::window_borders).with_faults(9),
+        plan("StartChecks", NO_ABORT, transfers::start_checks).with_faults(10),
+        plan("StartsAtBounds", TOP_MIDDLE, transfers::starts).with_faults(11),
+        plan("LaneMasks", SMALL, memories::lanes).with_faults(12),
+        plan("EmptyWindow", NO_WINDOW, scripts::no_window).with_faults(13),
+        plan("AllZeroSettings", Settings::ZERO, scripts::no_window).with_faults(14),
+        Plan {
             window_length: 0,
-            ..plan(FAILING, registers::outbound_post)
-        }),
-        without_faults(plan(FAILING, scripts::all_refused)),
-        without_faults(record(one_entry_too_many(), scripts::all_refused)),
-        without_faults(record(direction_of_two(), scripts::all_refused)),
-        without_faults(Plan {
+            ..plan("OutboundPostOverflow", FAILING, registers::outbound_post)
+        },
+        plan("FailingSettings", FAILING, scripts::all_refused),
+        record(
+            "OneEntryTooMany",
+            one_entry_too_many(),
+            scripts::all_refused,
+        ),
+        record("DirectionOfTwo", direction_of_two(), scripts::all_refused),
+        Plan {
             shared_length: SHARED_LENGTH - 4,
-            ..record(found(), scripts::all_refused)
-        }),
-    ];
-    share_faults(&mut plans);
-    plans
+            ..record("SharedTooShort", found(), scripts::all_refused)
+        },
+    ]
 }
 
-/// Gives every list that takes faults its part of them.
-fn share_faults(plans: &mut [Plan]) {
-    let shared: Vec<&mut Plan> = plans
-        .iter_mut()
-        .filter(|plan| plan.faults.is_some())
-        .collect();
-    let parts = shared.len();
-    for (part, plan) in shared.into_iter().enumerate() {
-        plan.faults = Some((part, parts));
-    }
-}
-
-fn plan(settings: Settings, script: fn(&mut Builder)) -> Plan {
+fn plan(name: &'static str, settings: Settings, script: Script) -> Plan {
     Plan {
+        name,
         first: First::Fresh(settings),
         shared_length: SHARED_LENGTH,
         window_length: settings.length,
         script,
-        faults: Some((0, 1)),
+        faults: None,
     }
 }
 
-fn record(card: Card, script: fn(&mut Builder)) -> Plan {
+fn record(name: &'static str, card: Card, script: Script) -> Plan {
     let settings = card.settings;
     Plan {
         first: First::Record(card),
-        ..plan(settings, script)
+        ..plan(name, settings, script)
     }
 }
 
-/// A list without further faults: it is long, or all is refused.
-fn without_faults(plan: Plan) -> Plan {
-    Plan {
-        faults: None,
-        ..plan
+impl Plan {
+    /// A list with a part of the faults. One that is long already, or refuses all, takes none.
+    fn with_faults(self, part: usize) -> Plan {
+        Plan {
+            faults: Some(Faults {
+                part,
+                parts: FAULT_PARTS,
+            }),
+            ..self
+        }
     }
 }
 

@@ -26,12 +26,18 @@ const FURTHER_DATA: [u32; 6] = [
 const REFUSED_MODES: [u8; 5] = [4, 5, 7, 128, 255];
 const REFUSED_PINS: [u8; 5] = [16, 17, 31, 128, 255];
 
+/// A data word of these pins alone.
+fn random(mode: u8, pins: u8) -> u32 {
+    let place = 16 * u64::from(mode) + u64::from(pins);
+    Rng::after(SEED, place).word()
+}
+
 fn cases() -> Vec<(u8, u8, u32)> {
-    let mut rng = Rng::new(SEED);
     let mut cases = Vec::new();
     for mode in 0..=3 {
         for pins in 0..=15 {
-            let data = DATA.into_iter().chain(FURTHER_DATA).chain([rng.word()]);
+            let random = random(mode, pins);
+            let data = DATA.into_iter().chain(FURTHER_DATA).chain([random]);
             cases.extend(data.map(|data| (mode, pins, data)));
         }
     }

@@ -144,7 +144,8 @@ fn several_faults(cases: &mut Cases) {
     cases.changed(77, &[(2, 1), (3, 1), (7, 1)]);
 }
 
-/// Whole records, one in three with random bytes in places.
+/// Whole records, one in three with random bytes in places. They draw one behind the other, so
+/// further ones go to the end.
 fn random(cases: &mut Cases) {
     let mut rng = Rng::new(SEED);
     for _ in 0..90 {

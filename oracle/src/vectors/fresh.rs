@@ -5,7 +5,7 @@ use crate::settings::Settings;
 
 use super::text;
 
-/// Settings, and whether they pass.
+/// Settings, and whether they pass. New ones stand at the end, behind the draws of those before.
 pub const CASES: [(Settings, bool); 34] = [
     (Settings::ZERO, true),
     (Settings::REPLAY, true),
@@ -51,32 +51,17 @@ pub const CASES: [(Settings, bool); 34] = [
 fn case(settings: &Settings, passes: bool) -> String {
     let (number, card) = fresh(*settings);
     assert_eq!(number == 0, passes, "{settings:?}");
-    let indent = text::INDENT;
     let (settings, card) = (text::settings(settings), text::card(&card));
-    format!("freshCase {settings} {number}\n{indent}{card}")
+    format!("freshCase {settings} {number} {card}")
 }
 
 pub fn text() -> String {
     let cases = CASES
         .iter()
         .map(|(settings, passes)| case(settings, *passes));
-    format!("{HEAD}{}{TAIL}", text::entries(cases))
+    let definitions = text::agreement("FreshCase", "FreshAgrees", "freshCard", cases);
+    text::file(
+        "settings, and the number and the card that they give",
+        &definitions,
+    )
 }
-
-const HEAD: &str = "\
--- Written by the independent program, oracle/: settings, and the number and the card that they give.
-use mathlib.Core.Path.{refl}
-use mathlib.Core.Bool.{false}
-use mathlib.Core.List.{List, [], _∷_}
-use Rattle.model.specs.State.{idle, freshCard}
-use Rattle.cases.specs.Vectors.{settings, flags, mail, interrupts, card, FreshCase, freshCase, FreshAgrees}
-
-cases : List FreshCase
-cases =
-";
-
-const TAIL: &str = "
-agrees : FreshAgrees cases
-unfolding cases freshCard
-agrees = refl
-";

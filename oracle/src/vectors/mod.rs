@@ -7,8 +7,11 @@ mod runs;
 pub mod sound;
 pub mod source;
 mod text;
+mod uses;
 
 use crate::stored::Stored;
+
+pub use text::is_written;
 
 /// Where the vector files stand, below `crates/`.
 pub const FOLDER: &str = "cases/specs";
@@ -33,16 +36,10 @@ impl File {
     }
 }
 
-/// Whether a file of this name can only be a list of accesses.
-pub fn is_run(name: &str) -> bool {
-    name.starts_with("Run") && name.ends_with(".antt")
-}
-
 pub fn files() -> Vec<Stored> {
     let mut files: Vec<File> = runs::runs()
         .iter()
-        .zip(1..)
-        .map(|(run, number)| File::new(&format!("Run{number:02}"), run.text()))
+        .map(|run| File::new(run.name, run.text()))
         .collect();
     files.push(File::new("SourceVectors", source::text()));
     files.push(File::new("PinVectors", pins::text()));

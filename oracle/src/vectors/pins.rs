@@ -55,23 +55,7 @@ pub fn text() -> String {
     let lines = cases()
         .into_iter()
         .map(|(mode, pins, data)| line(mode, pins, data));
-    format!("{HEAD}{}{TAIL}", text::entries(lines))
+    let agreement = text::agreement("PinCase", "PinsAgree", "decode", lines);
+    let definitions = format!("-- mode, pins, data; number, lanes, dword\n{agreement}");
+    text::file("local pins to lanes and dword", &definitions)
 }
-
-const HEAD: &str = "\
--- Written by the independent program, oracle/: local pins to lanes and dword.
-use mathlib.Core.Path.{refl}
-use mathlib.Core.List.{List, [], _∷_}
-use Rattle.model.specs.Pins.{decode}
-use Rattle.cases.specs.Vectors.{PinCase, pinCase, PinsAgree}
-
--- mode, pins, data; number, lanes, dword
-cases : List PinCase
-cases =
-";
-
-const TAIL: &str = "
-agrees : PinsAgree cases
-unfolding cases decode
-agrees = refl
-";

@@ -3,13 +3,15 @@
 use crate::access::{Access, Answer};
 use crate::drive::builder::Builder;
 use crate::drive::coverage::{required, Coverage};
-use crate::drive::plans::{plans, Plan};
+use crate::drive::plans::{plans, Plan, NUMBERED};
 use crate::rng::Rng;
+use crate::seeds::Seeds;
 use crate::settings::Settings;
 use crate::world::World;
 
 use super::text;
 
+const SEEDS: Seeds = Seeds::new(1, &NUMBERED);
 /// A list has at least so many accesses.
 const LENGTH: usize = 50;
 
@@ -18,6 +20,8 @@ const REACH: u32 = 20;
 
 /// A list with its answers, and the worlds before and after it.
 pub struct Run {
+    /// What the list shows.
+    pub name: &'static str,
     /// The settings, where the list starts from a fresh card.
     settings: Option<Settings>,
     first: World,
@@ -30,8 +34,7 @@ pub fn runs() -> Vec<Run> {
     let mut coverage = Coverage::default();
     let runs: Vec<Run> = plans()
         .into_iter()
-        .zip(1..)
-        .map(|(plan, seed)| build(plan, seed, &mut coverage))
+        .map(|plan| build(plan, &mut coverage))
         .collect();
     coverage.assert_reached(required::facts());
     let count = |holds: fn(&Run) -> bool| runs.iter().filter(|run| holds(run)).count();
@@ -40,8 +43,8 @@ pub fn runs() -> Vec<Run> {
     runs
 }
 
-fn build(plan: Plan, seed: u64, coverage: &mut Coverage) -> Run {
-    let mut rng = Rng::new(seed);
+fn build(plan: Plan, coverage: &mut Coverage) -> Run {
+    let mut rng = Rng::new(SEEDS.of(plan.name));
     let given = plan.first.settings();
     let marks = [0, given.lo, given.hi, given.length];
     let shared = memory(plan.shared_length, &[0, plan.shared_length], &mut rng);
@@ -50,6 +53,7 @@ fn build(plan: Plan, seed: u64, coverage: &mut Coverage) -> Run {
     let mut builder = Builder::new(first.clone(), rng, coverage);
     builder.follow(&plan, LENGTH);
     Run {
+        name: plan.name,
         settings: plan.first.is_fresh().then_some(given),
         first,
         entries: builder.entries,
@@ -85,12 +89,16 @@ impl Run {
             .entries
             .iter()
             .map(|(access, answer)| text::entry(access, answer));
-        format!(
-            "{HEAD}\nfirst : World\nfirst ={first}\n\n\
+        let definitions = format!(
+            "first : World\nfirst ={first}\n\n\
              entries : List (Entry Access Answer)\nentries =\n{}\n\
-             last : World\nlast ={}\n\n{TAIL}",
+             last : World\nlast ={}\n\n{AGREES}",
             text::entries(entries),
             world(&self.last)
+        );
+        text::file(
+            "a list of accesses with its answers, and what it leaves",
+            &definitions,
         )
     }
 }
@@ -106,21 +114,7 @@ fn world(world: &World) -> String {
     .join(&format!("\n{}", text::INDENT))
 }
 
-const HEAD: &str = "\
--- Written by the independent program, oracle/: a list of accesses with its answers, and what it leaves.
-use mathlib.Core.Path.{_≡_, refl}
-use mathlib.Core.Bool.{Bool, true, false}
-use mathlib.Core.List.{List, [], _∷_}
-use Prim.Native.Nat.{ℕ}
-use Rattle.model.specs.Lanes.{readDword, writeDword}
-use Rattle.model.specs.State.{idle, running, World, sound, freshCard, freshWorld}
-use Rattle.model.specs.Runs.{Entry}
-use Rattle.model.specs.Accesses.{Access, Answer, access}
-use Rattle.model.specs.Bench.{q, r, _gives_}
-use Rattle.cases.specs.Vectors.{settings, flags, mail, interrupts, transfer, card, world, bytes, RunAgrees}
-";
-
-const TAIL: &str = "\
+const AGREES: &str = "\
 agrees : RunAgrees first entries last
 unfolding first entries last access sound freshCard readDword writeDword
 agrees = refl

@@ -16,9 +16,22 @@ const SEED: u64 = 100;
 const RANDOM_SOUND: usize = 12;
 const RANDOM: usize = 16;
 
+/// So many numbers of the seed stand before those of the `random` section.
+const BEFORE_RANDOM: u64 = 1022;
+
 /// Records with what is expected of them.
 #[derive(Default)]
 struct Cases(Vec<(Card, bool)>);
+
+/// Adds the records of a section.
+type Add = fn(&mut Cases);
+
+/// Records of one subject. Further ones go to the end of a section, or into a new section: what
+/// is drawn for the others stays.
+pub struct Section {
+    pub name: &'static str,
+    pub cases: Vec<(Card, bool)>,
+}
 
 /// A fresh card with one change, after which it is sound or not.
 pub fn changed(settings: Settings, sound: bool, change: impl FnOnce(&mut Card)) -> Card {
@@ -41,20 +54,32 @@ impl Cases {
 }
 
 /// Records, and whether they are sound.
-pub fn cases() -> Vec<(Card, bool)> {
+pub fn sections() -> Vec<Section> {
+    let sections: [(&str, Add); 8] = [
+        ("settings", settings),
+        ("fifos", fifos),
+        ("pairs", pairs),
+        ("mailboxes", mailboxes),
+        ("registers", registers),
+        ("transfers", transfers),
+        ("random sound", random_sound),
+        ("random", random),
+    ];
+    sections.map(section).into_iter().collect()
+}
+
+fn section((name, add): (&'static str, Add)) -> Section {
     let mut cases = Cases::default();
+    add(&mut cases);
+    let cases = cases.0;
+    Section { name, cases }
+}
+
+fn settings(cases: &mut Cases) {
     cases.add(true, |_| ());
     for (settings, passes) in settings_cases::CASES {
         cases.add(passes, |card| card.settings = settings);
     }
-    fifos(&mut cases);
-    pairs(&mut cases);
-    mailboxes(&mut cases);
-    registers(&mut cases);
-    transfers(&mut cases);
-    random(&mut cases);
-    assert!(cases.0.len() >= 60);
-    cases.0
 }
 
 fn fifos(cases: &mut Cases) {
@@ -170,13 +195,17 @@ fn transfers(cases: &mut Cases) {
     }
 }
 
-fn random(cases: &mut Cases) {
+fn random_sound(cases: &mut Cases) {
     let mut rng = Rng::new(SEED);
     for _ in 0..RANDOM_SOUND {
         let card = arbitrary::sound_card(&mut rng);
         assert!(card.sound(), "{card:?}");
         cases.0.push((card, true));
     }
+}
+
+fn random(cases: &mut Cases) {
+    let mut rng = Rng::after(SEED, BEFORE_RANDOM);
     for _ in 0..RANDOM {
         let card = arbitrary::card(&mut rng);
         let sound = card.sound();
@@ -185,29 +214,16 @@ fn random(cases: &mut Cases) {
 }
 
 fn case((card, sound): &(Card, bool)) -> String {
-    let indent = text::INDENT;
-    let card = text::card(card);
-    format!("soundCase\n{indent}{card}\n{indent}{sound}")
+    format!("soundCase {} {sound}", text::card(card))
 }
 
 pub fn text() -> String {
-    format!("{HEAD}{}{TAIL}", text::entries(cases().iter().map(case)))
+    let sections = sections();
+    let cases: Vec<String> = sections
+        .iter()
+        .flat_map(|section| section.cases.iter().map(case))
+        .collect();
+    assert!(cases.len() >= 60);
+    let definitions = text::agreement("SoundCase", "SoundnessAgrees", "sound", cases);
+    text::file("records, and whether they are sound", &definitions)
 }
-
-const HEAD: &str = "\
--- Written by the independent program, oracle/: records, and whether they are sound.
-use mathlib.Core.Path.{refl}
-use mathlib.Core.Bool.{true, false}
-use mathlib.Core.List.{List, [], _∷_}
-use Rattle.model.specs.State.{idle, running, sound}
-use Rattle.cases.specs.Vectors.{settings, flags, mail, interrupts, transfer, card, SoundCase, soundCase, SoundnessAgrees}
-
-cases : List SoundCase
-cases =
-";
-
-const TAIL: &str = "
-agrees : SoundnessAgrees cases
-unfolding cases sound
-agrees = refl
-";

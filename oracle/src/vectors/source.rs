@@ -39,18 +39,40 @@ impl Cases {
     }
 }
 
-pub fn cases() -> Vec<Case> {
-    let mut cases = Cases::default();
+/// Adds the requests of a direction.
+type OfDirection = fn(&mut Cases, u8);
+
+/// Requests of one subject. Further ones go to the end of a section, or into a new section: what
+/// is drawn for the others stays.
+pub struct Section {
+    pub name: String,
+    pub cases: Vec<Case>,
+}
+
+pub fn sections() -> Vec<Section> {
+    let of_each_direction: [(&str, OfDirection); 4] = [
+        ("sizes", sizes),
+        ("addresses", addresses),
+        ("windows", windows),
+        ("causes of 1", causes_of_1),
+    ];
+    let mut sections = Vec::new();
     for direction in [0, 1] {
-        sizes(&mut cases, direction);
-        addresses(&mut cases, direction);
-        windows(&mut cases, direction);
-        causes_of_1(&mut cases, direction);
+        for (name, add) in of_each_direction {
+            let name = format!("{name}, direction {direction}");
+            sections.push(section(name, |cases| add(cases, direction)));
+        }
     }
-    directions(&mut cases);
-    two_at_once(&mut cases);
-    assert!(cases.0.len() >= 100);
-    cases.0
+    sections.push(section("directions".to_string(), directions));
+    sections.push(section("two at once".to_string(), two_at_once));
+    sections
+}
+
+fn section(name: String, add: impl FnOnce(&mut Cases)) -> Section {
+    let mut cases = Cases::default();
+    add(&mut cases);
+    let cases = cases.0;
+    Section { name, cases }
 }
 
 fn sizes(cases: &mut Cases, direction: u8) {
@@ -186,9 +208,9 @@ fn line(case: &Case) -> String {
         Memory::Shared => "sharedMemory",
         Memory::Window => "windowMemory",
     };
-    let (settings, transfer) = (text::settings(settings), text::transfer(transfer));
+    let (settings, request) = (text::settings(settings), text::request(transfer));
     format!(
-        "sourceCase {settings} {shared_length} {window_length} {transfer} \
+        "sourceCase {settings} {shared_length} {window_length} {request} \
          (part {memory} {offset} {count})"
     )
 }
@@ -197,12 +219,17 @@ fn line(case: &Case) -> String {
 const PORTION: usize = 60;
 
 pub fn text() -> String {
-    let portions: Vec<String> = cases()
+    let cases: Vec<Case> = sections()
+        .into_iter()
+        .flat_map(|section| section.cases)
+        .collect();
+    assert!(cases.len() >= 100);
+    let portions: Vec<String> = cases
         .chunks(PORTION)
         .zip(1..)
         .map(|(cases, number)| portion(number, cases))
         .collect();
-    format!("{HEAD}{}", portions.join("\n"))
+    text::file("requests for a transfer's source", &portions.join("\n"))
 }
 
 fn portion(number: usize, cases: &[Case]) -> String {
@@ -216,12 +243,3 @@ fn portion(number: usize, cases: &[Case]) -> String {
          agrees{number} = refl\n"
     )
 }
-
-const HEAD: &str = "\
--- Written by the independent program, oracle/: requests for a transfer's source.
-use mathlib.Core.Path.{refl}
-use mathlib.Core.List.{List, [], _∷_}
-use Rattle.model.specs.Source.{sharedMemory, windowMemory, source}
-use Rattle.cases.specs.Vectors.{settings, transfer, part, SourceCase, sourceCase, SourcesAgree}
-
-";

@@ -1,16 +1,31 @@
 //! Records, accesses and memories as antt text, in the layout of the formatter.
 
 use crate::access::{Access, Answer};
-use crate::card::Card;
+use crate::card::{Card, Mailboxes, Pair};
 use crate::decimal::decimal;
 use crate::settings::Settings;
-use crate::transfer::Transfer;
+use crate::transfer::{Running, Transfer};
+
+use super::uses::uses;
+
+/// How every file begins that this program writes as antt text.
+const WRITTEN: &str = "-- Written by the independent program, oracle/";
 
 /// Runs of at least this many zeros are written as a count.
 const ZERO_RUN: usize = 8;
 
 /// The indent of a list's entries.
 pub const INDENT: &str = "    ";
+
+/// A file of these definitions, behind a line that says what it holds.
+pub fn file(holds: &str, definitions: &str) -> String {
+    format!("{WRITTEN}: {holds}.\n{}\n{definitions}", uses(definitions))
+}
+
+/// Whether a stored file is one that this program wrote.
+pub fn is_written(bytes: &[u8]) -> bool {
+    bytes.starts_with(WRITTEN.as_bytes())
+}
 
 /// "a ∷ b ∷ []", on one line.
 fn list<T>(items: impl IntoIterator<Item = T>, text: impl Fn(T) -> String) -> String {
@@ -32,6 +47,24 @@ fn bracketed<T>(items: impl IntoIterator<Item = T>, text: impl Fn(T) -> String) 
     }
 }
 
+/// Cases of a type, and that they agree with a definition, by computation.
+pub fn agreement(
+    case: &str,
+    agree: &str,
+    definition: &str,
+    cases: impl IntoIterator<Item = String>,
+) -> String {
+    let cases = entries(cases);
+    format!(
+        "cases : List {case}\n\
+         cases =\n\
+         {cases}\n\
+         agrees : {agree} cases\n\
+         unfolding cases {definition}\n\
+         agrees = refl\n"
+    )
+}
+
 /// A list with an entry to a line, as the body of a definition.
 pub fn entries(items: impl IntoIterator<Item = String>) -> String {
     let mut items: Vec<String> = items.into_iter().collect();
@@ -43,33 +76,53 @@ pub fn settings(settings: &Settings) -> String {
     format!("(settings {})", decimal(settings.numbers()))
 }
 
-pub fn transfer(transfer: &Transfer) -> String {
-    format!("(transfer {})", decimal(transfer.numbers()))
+pub fn request(transfer: &Transfer) -> String {
+    format!("(request {})", decimal(transfer.numbers()))
 }
 
+/// A card as changes of an untouched one of its settings: only the parts that differ are named.
 pub fn card(card: &Card) -> String {
-    let fifos = list(&card.fifos, |fifo| bracketed(fifo, u32::to_string));
-    let flags = list(&card.pairs, |pair| {
-        format!("flags {} {}", pair.host, pair.local)
-    });
-    let mail = &card.mailboxes;
-    let dma = match &card.running {
-        None => "idle".to_string(),
-        Some(running) => format!(
-            "(running {} {})",
-            transfer(&running.transfer),
-            running.moved
-        ),
-    };
-    [
-        format!("(card {}", settings(&card.settings)),
-        format!("({fifos})"),
-        format!("({flags})"),
-        format!("(mail {} {} {})", mail.hldata, mail.lhdata, mail.written),
-        format!("(interrupts {})", decimal(card.register_numbers())),
-        format!("{dma})"),
-    ]
-    .join(&format!("\n{INDENT}"))
+    let untouched = format!("(untouched {})", settings(&card.settings));
+    // the last change stands innermost
+    changes(card)
+        .into_iter()
+        .rev()
+        .fold(untouched, |rest, (word, part)| {
+            format!("({word} {part} {rest})")
+        })
+}
+
+/// The parts in which a card differs from an untouched one, each behind the word that changes it.
+fn changes(card: &Card) -> Vec<(&'static str, String)> {
+    let untouched = Card::cleared(card.settings);
+    let mut changes = Vec::new();
+    if card.fifos != untouched.fifos {
+        let fifos = bracketed(&card.fifos, |fifo| bracketed(fifo, u32::to_string));
+        changes.push(("withFifos", fifos));
+    }
+    if card.pairs != untouched.pairs {
+        changes.push(("withArbitration", bracketed(&card.pairs, pair)));
+    }
+    if card.mailboxes != untouched.mailboxes {
+        changes.push(("withMailboxes", mail(&card.mailboxes)));
+    }
+    if card.register_numbers() != untouched.register_numbers() {
+        let numbers = decimal(card.register_numbers());
+        changes.push(("withInterrupts", format!("(interrupts {numbers})")));
+    }
+    if let Some(Running { transfer, moved }) = &card.running {
+        let running = format!("(running {} {moved})", request(transfer));
+        changes.push(("withTransfer", running));
+    }
+    changes
+}
+
+fn pair(pair: &Pair) -> String {
+    format!("pair {} {}", pair.host, pair.local)
+}
+
+fn mail(mail: &Mailboxes) -> String {
+    format!("(mail {} {} {})", mail.hldata, mail.lhdata, mail.written)
 }
 
 /// A memory in pieces: so many zeros, then these bytes.

@@ -3,14 +3,8 @@ use borrow.Author.Needs.{needs}
 use Rattle.access.proofs.value_only.Statement.{statement}
 use Rattle.access.proofs.value_only.Tie as tie
 
-nonzero-requires : tie.Need-nonzero-requires
-nonzero-requires c κs = search needs
-
-when-requires : tie.Need-when-requires
-when-requires c κs = search needs
-
 returns : tie.Need-returns
 returns c = rw (c .when .ensures, c .before .nonzero .ensures)
 
 pub value-only-spec : {M : Type 1} → statement M
-value-only-spec = tie.close (tie.spec nonzero-requires when-requires returns)
+value-only-spec = tie.close (tie.spec (λ c κs. search needs) (λ c κs. search needs) returns)

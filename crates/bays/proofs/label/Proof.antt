@@ -4,9 +4,6 @@ use borrow.Author.Tests.{le-leb, lt-leb}
 use Rattle.bays.proofs.label.Statement.{statement}
 use Rattle.bays.proofs.label.Tie as tie
 
-add-t4 : tie.Need-add-t4
-add-t4 c = search needs
-
 returns : tie.Need-returns
 returns c = rw (le-leb _ 23 (c .before .if1 .taken))
 
@@ -14,4 +11,4 @@ returns-2 : tie.Need-returns-2
 returns-2 c = rw (lt-leb _ 23 (c .if1 .left))
 
 pub label-spec : {M : Type 1} → statement M
-label-spec = tie.close (tie.spec add-t4 returns returns-2)
+label-spec = tie.close (tie.spec (λ c. search needs) returns returns-2)

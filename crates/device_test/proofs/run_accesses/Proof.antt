@@ -11,49 +11,8 @@ Inv-loop shared₀ window₀ count held₀ left₀ shared window held left = (le
 abbrev μ-loop : tie.MeasureT-loop
 μ-loop shared₀ window₀ count held₀ left₀ shared window held left = left
 
-loop-holds : tie.Need-loop-holds Inv-loop μ-loop
-loop-holds c = search needs
-
-read-access-requires : tie.Need-read-access-requires Inv-loop μ-loop
-read-access-requires c κs = search needs
-
-access-requires : tie.Need-access-requires Inv-loop μ-loop
-access-requires c κs = search needs
-
-show-answer-requires : tie.Need-show-answer-requires Inv-loop μ-loop
-show-answer-requires c κs = search needs
-
-sub-left : tie.Need-sub-left Inv-loop μ-loop
-sub-left c = search needs
-
-loop-less : tie.Need-loop-less Inv-loop μ-loop
-loop-less c = search needs
-
-loop-again : tie.Need-loop-again Inv-loop μ-loop
-loop-again c = search needs
-
-same-length : tie.Need-same-length Inv-loop μ-loop
-same-length c = search needs
-
-same-length-2 : tie.Need-same-length-2 Inv-loop μ-loop
-same-length-2 c = search needs
-
-returns : tie.Need-returns Inv-loop μ-loop
-returns c = search needs
-
 pub run-accesses-spec : {M : Type 1} → statement M
 run-accesses-spec =
     tie.close
-    (tie.spec
-    Inv-loop
-    μ-loop
-    loop-holds
-    read-access-requires
-    access-requires
-    show-answer-requires
-    sub-left
-    loop-less
-    loop-again
-    same-length
-    same-length-2
-    returns)
+    (tie.spec Inv-loop μ-loop (λ c. search needs) (λ c κs. search needs) (λ c κs. search needs) (λ c κs. search needs) (λ c. search needs)
+    (λ c. search needs) (λ c. search needs) (λ c. search needs) (λ c. search needs) (λ c. search needs))

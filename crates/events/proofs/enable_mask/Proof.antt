@@ -3,17 +3,8 @@ use borrow.Author.Needs.{needs}
 use Rattle.events.proofs.enable_mask.Statement.{statement}
 use Rattle.events.proofs.enable_mask.Tie as tie
 
-stored-mask-requires : tie.Need-stored-mask-requires
-stored-mask-requires c κs = search needs
-
-insert-requires : tie.Need-insert-requires
-insert-requires c κs = search needs
-
-insert-requires-2 : tie.Need-insert-requires-2
-insert-requires-2 c κs = search needs
-
 returns : tie.Need-returns
 returns c = rw (c .insert2 .ensures, c .before .insert .ensures, c .before .before .stored-mask .ensures)
 
 pub enable-mask-spec : {M : Type 1} → statement M
-enable-mask-spec = tie.close (tie.spec stored-mask-requires insert-requires insert-requires-2 returns)
+enable-mask-spec = tie.close (tie.spec (λ c κs. search needs) (λ c κs. search needs) (λ c κs. search needs) returns)

@@ -4,24 +4,6 @@ use borrow.Author.Needs.{needs}
 use Rattle.events.proofs.stored_mask.Statement.{statement}
 use Rattle.events.proofs.stored_mask.Tie as tie
 
-insert-requires : tie.Need-insert-requires
-insert-requires c κs = search needs
-
-insert-requires-2 : tie.Need-insert-requires-2
-insert-requires-2 c κs = search needs
-
-insert-requires-3 : tie.Need-insert-requires-3
-insert-requires-3 c κs = search needs
-
-insert-requires-4 : tie.Need-insert-requires-4
-insert-requires-4 c κs = search needs
-
-insert-requires-5 : tie.Need-insert-requires-5
-insert-requires-5 c κs = search needs
-
-insert-requires-6 : tie.Need-insert-requires-6
-insert-requires-6 c κs = search needs
-
 returns : tie.Need-returns
 returns c =
     let five = c .before .before in
@@ -37,12 +19,5 @@ returns-2 c =
 pub stored-mask-spec : {M : Type 1} → statement M
 stored-mask-spec =
     tie.close
-    (tie.spec
-    insert-requires
-    insert-requires-2
-    insert-requires-3
-    insert-requires-4
-    insert-requires-5
-    insert-requires-6
-    returns
-    returns-2)
+    (tie.spec (λ c κs. search needs) (λ c κs. search needs) (λ c κs. search needs) (λ c κs. search needs) (λ c κs. search needs)
+    (λ c κs. search needs) returns returns-2)

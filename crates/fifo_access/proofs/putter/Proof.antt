@@ -1,5 +1,5 @@
 -- `fifo_access::putter` meets its contract: FIFOs 0 and 3, and the others.
-use Rattle.fifo_access.specs.FifoLaws.{puts-local, puts-host}
+use Rattle.fifo_access.specs.Laws.{puts-local, puts-host}
 use Rattle.fifo_access.proofs.putter.Statement.{statement}
 use Rattle.fifo_access.proofs.putter.Tie as tie
 

@@ -1,32 +1,22 @@
 -- `interrupt_access::external_pin` meets its contract: refused by its checks, or done with the effect of its row.
 use mathlib.Core.Path.{refl, sym, _∙_}
 use Rattle.model.specs.Accesses as model
-use Rattle.card.specs.Did.{worldOf, refused-did, done-did}
+use Rattle.card.specs.Laws.{refused-did, done-did}
 use borrow.Author.Needs.{needs}
 use Rattle.interrupt_access.proofs.external_pin.Statement.{statement}
 use Rattle.interrupt_access.proofs.external_pin.Tie as tie
-
-pin-refusal-requires : tie.Need-pin-refusal-requires
-pin-refusal-requires c κs = search needs
-
-refused-requires : tie.Need-refused-requires
-refused-requires c κs = search needs
 
 returns : tie.Need-returns
 returns c =
     let f = c .before .before in
     let a = f .before .args in
-    λ m w. rw (c .refused .ensures) (refused-did model.externalPin (a .card) (a .q) m w _ (f .pin-refusal .ensures (worldOf (a .card) m w)) (c .before .if1 .taken))
-
-raise-external-requires : tie.Need-raise-external-requires
-raise-external-requires c κs = search needs
+    λ m w. rw (c .refused .ensures) (refused-did model.externalPin (a .card) (a .q) m w _ (f .pin-refusal .ensures) (c .before .if1 .taken))
 
 returns-2 : tie.Need-returns-2
 returns-2 c =
     let f = c .before .before in
     let a = f .before .args in
-    λ m w. done-did model.externalPin (a .card) (a .q) m w _ (sym (f .pin-refusal .ensures (worldOf (a .card) m w)) ∙ c .before .if1 .left) refl (c .raise-external .ensures)
+    λ m w. done-did model.externalPin (a .card) (a .q) m w _ (sym (f .pin-refusal .ensures) ∙ c .before .if1 .left) refl (c .raise-external .ensures)
 
 pub external-pin-spec : {M : Type 1} → statement M
-external-pin-spec =
-    tie.close (tie.spec pin-refusal-requires refused-requires returns raise-external-requires returns-2)
+external-pin-spec = tie.close (tie.spec (λ c κs. search needs) (λ c κs. search needs) returns (λ c κs. search needs) returns-2)

@@ -1,24 +1,12 @@
 -- `interrupt_access::line_level` meets its contract: active or not, as the register with its live bits tells.
 use mathlib.Core.Path.{refl}
 use Rattle.model.specs.Sides.{sideOf}
-use Rattle.events.specs.Registers.{registerAs}
-use Rattle.card.specs.BridgeLaws.{unchanged}
-use Rattle.interrupt_access.specs.RegisterLaws.{line-read}
+use Rattle.events.specs.Bridge.{registerAs}
+use Rattle.card.specs.Laws.{unchanged}
+use Rattle.interrupt_access.specs.Laws.{line-read}
 use borrow.Author.Needs.{needs}
 use Rattle.interrupt_access.proofs.line_level.Statement.{statement}
 use Rattle.interrupt_access.proofs.line_level.Tie as tie
-
-register-requires : tie.Need-register-requires
-register-requires c κs = search needs
-
-live-requires : tie.Need-live-requires
-live-requires c κs = search needs
-
-line-requires : tie.Need-line-requires
-line-requires c κs = search needs
-
-done-requires : tie.Need-done-requires
-done-requires c κs = search needs
 
 returns : tie.Need-returns
 returns c =
@@ -27,9 +15,6 @@ returns c =
     let g = l .before in
     let a = g .before .before .args in
     rw (c .done .ensures) (unchanged _ 0 _ 0 (a .card) (line-read (a .card) (sideOf (a .side)) (registerAs (g .register .result)) _ (g .register .ensures) (l .live .ensures) _ _ (n .line .ensures) (c .before .if1 .taken)) refl)
-
-done-requires-2 : tie.Need-done-requires-2
-done-requires-2 c κs = search needs
 
 returns-2 : tie.Need-returns-2
 returns-2 c =
@@ -42,11 +27,5 @@ returns-2 c =
 pub line-level-spec : {M : Type 1} → statement M
 line-level-spec =
     tie.close
-    (tie.spec
-    register-requires
-    live-requires
-    line-requires
-    done-requires
-    returns
-    done-requires-2
+    (tie.spec (λ c κs. search needs) (λ c κs. search needs) (λ c κs. search needs) (λ c κs. search needs) returns (λ c κs. search needs)
     returns-2)

@@ -1,25 +1,16 @@
 -- `interrupt_access::write` meets its contract: refused by its checks, or done with the effect of its row.
 use mathlib.Core.Path.{refl, sym, _∙_}
 use Rattle.model.specs.Accesses as model
-use Rattle.card.specs.Did.{refused-did, done-did}
+use Rattle.card.specs.Laws.{refused-did, done-did}
 use borrow.Author.Needs.{needs}
 use Rattle.interrupt_access.proofs.write.Statement.{statement}
 use Rattle.interrupt_access.proofs.write.Tie as tie
-
-value-only-requires : tie.Need-value-only-requires
-value-only-requires c κs = search needs
-
-refused-requires : tie.Need-refused-requires
-refused-requires c κs = search needs
 
 returns : tie.Need-returns
 returns c =
     let f = c .before .before in
     let a = f .before .args in
     λ m w. rw (c .refused .ensures) (refused-did model.interruptWrite (a .card) (a .q) m w _ (f .value-only .ensures) (c .before .if1 .taken))
-
-write-register-requires : tie.Need-write-register-requires
-write-register-requires c κs = search needs
 
 returns-2 : tie.Need-returns-2
 returns-2 c =
@@ -28,5 +19,4 @@ returns-2 c =
     λ m w. done-did model.interruptWrite (a .card) (a .q) m w _ (sym (f .value-only .ensures) ∙ c .before .if1 .left) refl (c .write-register .ensures)
 
 pub write-spec : {M : Type 1} → statement M
-write-spec =
-    tie.close (tie.spec value-only-requires refused-requires returns write-register-requires returns-2)
+write-spec = tie.close (tie.spec (λ c κs. search needs) (λ c κs. search needs) returns (λ c κs. search needs) returns-2)

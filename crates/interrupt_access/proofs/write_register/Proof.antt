@@ -1,21 +1,25 @@
 -- `interrupt_access::write_register` meets its contract: one side's register, written.
+use mathlib.Core.Path.{refl}
+use Prim.Native.Nat.{_/_}
 use Rattle.model.specs.Sides.{sideOf}
-use Rattle.interrupt_access.specs.RegisterLaws.{register-written}
+use Rattle.model.specs.Events.{common, enableMask}
+use Rattle.model.specs.Interrupts.{onRegister, clearedIn, enablesIn}
+use Rattle.interrupt_access.specs.Laws.{registers-changed}
 use borrow.Author.Needs.{needs}
 use Rattle.interrupt_access.proofs.write_register.Statement.{statement}
 use Rattle.interrupt_access.proofs.write_register.Tie as tie
 
-write-requires : tie.Need-write-requires
-write-requires c κs = search needs
-
-done-requires : tie.Need-done-requires
-done-requires c κs = search needs
-
 returns : tie.Need-returns
 returns c =
-    let w = c .before in
+    let s = c .before in
+    let w = s .before in
     let a = w .before .before .args in
-    rw (c .done .ensures) (register-written (a .card) (sideOf (a .side)) (a .value) (w .write .result) (w .write .ensures))
+    let side = sideOf (a .side) in
+    let enables = common (a .value / 65536) (enableMask side) in
+    rw (c .done .ensures) (record {
+      answer = refl;
+      state = registers-changed (a .card) _ (w .write .result) (λ i. onRegister side (clearedIn (a .value)) (onRegister side (enablesIn enables) i)) (w .write .ensures) (s .with-interrupts .ensures);
+    })
 
 pub write-register-spec : {M : Type 1} → statement M
-write-register-spec = tie.close (tie.spec write-requires done-requires returns)
+write-register-spec = tie.close (tie.spec (λ c κs. search needs) (λ c κs. search needs) (λ c κs. search needs) returns)

@@ -1,74 +1,36 @@
--- `memory_access::window_write` meets its contract: refused by its checks, or done as its row says.
-use Rattle.memory_access.specs.Rows.{window-placed}
-use Rattle.card.specs.Did.{refused-did, stored-did}
-use Rattle.settings.specs.Bridge.{settingsAs}
-use Rattle.card.specs.BridgeLaws.{settings-is}
-use Rattle.model.specs.Sides.{sideOf}
-use Rattle.model.specs.Accesses as model
-use native.Mathlib.Omega.{arith}
-use denote.Ref.{now}
+-- `memory_access::window_write` meets its contract: refused by its checks; past them the four bytes lie in the window, and the dword is stored as the row says.
 use mathlib.Core.Path.{refl}
+use native.Mathlib.Omega.{arith}
+use Rattle.card.specs.Bridge.{stateAs}
+use Rattle.card.specs.Laws.{refused-did, stored-did}
+use Rattle.memory_access.specs.Laws.{InWindow, window-placed}
 use borrow.Author.Needs.{needs}
 use Rattle.memory_access.proofs.window_write.Statement.{statement}
 use Rattle.memory_access.proofs.window_write.Tie as tie
 
-nonzero-requires : tie.Need-nonzero-requires
-nonzero-requires c κs = search needs
-
-window-refusal-requires : tie.Need-window-refusal-requires
-window-refusal-requires c κs = search needs
-
-refused-requires : tie.Need-refused-requires
-refused-requires c κs = search needs
-
 returns : tie.Need-returns
-returns c =
-    let r = c .before .before in
-    let a = r .before .before .before .before .args in
-    λ m. rw (c .refused .ensures) (refused-did model.windowWrite (a .card) (a .q) m (now (a .window)) _ (rw (r .window-refusal .ensures, r .before .nonzero .ensures, settings-is (a .card))) (c .before .if1 .taken))
+unfolding stateAs
+returns c = λ m. rw (c .refused .ensures) (refused-did _ _ _ _ _ _ (c .before .before .window-refusal .ensures) (c .before .if1 .taken))
+
+placed : (c : tie.Else1) → let a = c .before .before .before .before .args in InWindow (a .card .settings) (a .q .a)
+placed c = let a = c .before .before .before .before .args in window-placed (a .q) 0 _ (a .card .settings) (c .before .window-refusal .ensures) (c .if1 .left)
 
 offset-requires : tie.Need-offset-requires
-offset-requires c κs =
-    let e = c .before in
-    let r = e .before in
-    let a = r .before .before .before .before .args in
-    window-placed (settingsAs (a .card .settings)) (sideOf (a .q .side)) (r .before .nonzero .result) (a .q .s) (a .q .a) _ (r .window-refusal .ensures) (e .if1 .left) .low
+offset-requires c κs = placed (c .before) .low
 
 write-dword-requires : tie.Need-write-dword-requires
-write-dword-requires c κs =
-    let e = c .before .before in
-    let r = e .before in
-    let st = r .before .before .before .before in
-    let a = st .args in
-    let p = window-placed (settingsAs (a .card .settings)) (sideOf (a .q .side)) (r .before .nonzero .result) (a .q .s) (a .q .a) _ (r .window-refusal .ensures) (e .if1 .left) in
-    omega (arith, c .offset .ensures, st .pre)
-
-done-requires : tie.Need-done-requires
-done-requires c κs = search needs
-
-same-length : tie.Need-same-length
-same-length c = search needs
+write-dword-requires c κs = let e = c .before .before in let p = placed e in omega (arith, c .offset .ensures, e .before .before .before .before .pre)
 
 returns-2 : tie.Need-returns-2
+unfolding stateAs
 returns-2 c =
     let d = c .before .before .before in
-    let o = d .before in
-    let e = o .before .before in
-    let r = e .before in
-    let a = r .before .before .before .before .args in
-    λ m. rw (c .done .ensures) (stored-did model.windowWrite (a .card) (a .q) m (now (a .window)) _ m _ (rw (settings-is (a .card), ← r .before .nonzero .ensures, ← r .window-refusal .ensures) (e .if1 .left))
-    (record { effected = record { answer = refl; state = refl }; memories = record { shared = refl; window = rw (d .write-dword .ensures, o .offset .ensures, settings-is (a .card)) } }))
+    let e = d .before .before .before in
+    λ m. rw (c .done .ensures) (stored-did _ _ _ _ _ _ _ _ (rw (← e .before .window-refusal .ensures) (e .if1 .left))
+    (record { effected = record { answer = refl; state = refl }; memories = record { shared = refl; window = rw (d .write-dword .ensures, d .before .offset .ensures) } }))
 
 pub window-write-spec : {M : Type 1} → statement M
 window-write-spec =
     tie.close
-    (tie.spec
-    nonzero-requires
-    window-refusal-requires
-    refused-requires
-    returns
-    offset-requires
-    write-dword-requires
-    done-requires
-    same-length
-    returns-2)
+    (tie.spec (λ c κs. search needs) (λ c κs. search needs) returns offset-requires write-dword-requires (λ c κs. search needs)
+    (λ c. search needs) returns-2)

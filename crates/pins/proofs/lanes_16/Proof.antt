@@ -4,15 +4,6 @@ use borrow.Author.Needs.{needs}
 use Rattle.pins.proofs.lanes_16.Statement.{statement}
 use Rattle.pins.proofs.lanes_16.Tie as tie
 
-mul-result : tie.Need-mul-result
-mul-result c = search needs
-
-add-result : tie.Need-add-result
-add-result c = search needs
-
-add-result-2 : tie.Need-add-result-2
-add-result-2 c = search needs
-
 returns : tie.Need-returns
 returns c = rw (eq-eqb _ _ (c .if1 .taken))
 
@@ -20,4 +11,4 @@ returns-2 : tie.Need-returns-2
 returns-2 c = rw (ne-eqb _ _ (c .if1 .left))
 
 pub lanes-16-spec : {M : Type 1} → statement M
-lanes-16-spec = tie.close (tie.spec mul-result add-result add-result-2 returns returns-2)
+lanes-16-spec = tie.close (tie.spec (λ c. search needs) (λ c. search needs) (λ c. search needs) returns returns-2)

@@ -5,22 +5,10 @@ use Prim.Native.Nat.{_-_, _/_, _^_}
 use native.Mathlib.Omega.{arith}
 use lib.ListN.{getD}
 use Rattle.model.specs.Pins.{motorolaRows}
-use Rattle.pins.proofs.Table.{rule}
+use Rattle.pins.specs.Laws.{rule}
 use borrow.Author.Needs.{needs}
 use Rattle.pins.proofs.mask.Statement.{statement}
 use Rattle.pins.proofs.mask.Tie as tie
-
-cast-result : tie.Need-cast-result
-cast-result c = search needs
-
-array-read-result : tie.Need-array-read-result
-array-read-result c = search needs
-
-lanes-16-requires : tie.Need-lanes-16-requires
-lanes-16-requires c κs = search needs
-
-array-read-result-2 : tie.Need-array-read-result-2
-array-read-result-2 c = search needs
 
 returns : tie.Need-returns
 returns c =
@@ -46,12 +34,4 @@ returns-4 c =
 pub mask-spec : {M : Type 1} → statement M
 mask-spec =
     tie.close
-    (tie.spec
-    cast-result
-    array-read-result
-    lanes-16-requires
-    array-read-result-2
-    returns
-    returns-2
-    returns-3
-    returns-4)
+    (tie.spec (λ c. search needs) (λ c. search needs) (λ c κs. search needs) (λ c. search needs) returns returns-2 returns-3 returns-4)

@@ -4,44 +4,11 @@ use borrow.Author.Needs.{needs}
 use Rattle.replay.proofs.replay_chunk.Statement.{statement}
 use Rattle.replay.proofs.replay_chunk.Tie as tie
 
-read-full-requires : tie.Need-read-full-requires
-read-full-requires c κs = search needs
-
-sub-answer-chunk : tie.Need-sub-answer-chunk
-sub-answer-chunk c = search needs
-
-part-answer-chunk-start : tie.Need-part-answer-chunk-start
-part-answer-chunk-start c = search needs
-
-part-answer-chunk-end : tie.Need-part-answer-chunk-end
-part-answer-chunk-end c = search needs
-
-answer-chunk-requires : tie.Need-answer-chunk-requires
-answer-chunk-requires c κs = search needs
-
-sub-write-all : tie.Need-sub-write-all
-sub-write-all c = search needs
-
-part-write-all-start : tie.Need-part-write-all-start
-part-write-all-start c = search needs
-
-part-write-all-end : tie.Need-part-write-all-end
-part-write-all-end c = search needs
-
-write-all-requires : tie.Need-write-all-requires
-write-all-requires c κs = search needs
-
-same-length : tie.Need-same-length
-same-length c = search needs
-
-same-length-2 : tie.Need-same-length-2
-same-length-2 c = search needs
-
+-- reading fills the buffer and keeps its length
 same-length-3 : tie.Need-same-length-3
-same-length-3 c = search needs
-
-same-length-4 : tie.Need-same-length-4
-same-length-4 c = search needs
+same-length-3 c =
+    let chunk = c .before .before .before .before .before .before .before .before .before .before .before in
+    search (needs, chunk .before .before .before .before .before .before .before .input .given)
 
 returns : tie.Need-returns
 returns c =
@@ -52,18 +19,6 @@ returns c =
 pub replay-chunk-spec : {M : Type 1} → statement M
 replay-chunk-spec =
     tie.close
-    (tie.spec
-    read-full-requires
-    sub-answer-chunk
-    part-answer-chunk-start
-    part-answer-chunk-end
-    answer-chunk-requires
-    sub-write-all
-    part-write-all-start
-    part-write-all-end
-    write-all-requires
-    same-length
-    same-length-2
-    same-length-3
-    same-length-4
+    (tie.spec (λ c κs. search needs) (λ c. search needs) (λ c. search needs) (λ c. search needs) (λ c κs. search needs) (λ c. search needs)
+    (λ c. search needs) (λ c. search needs) (λ c κs. search needs) (λ c. search needs) (λ c. search needs) same-length-3 (λ c. search needs)
     returns)

@@ -17,23 +17,8 @@ abbrev μ-loop : tie.MeasureT-loop
 most : (c : tie.Start Inv-loop μ-loop) → length (decimalText (c .args .n)) ≤ 20
 most c = digits-64 (c .args .n) (omega arith)
 
-loop-holds : tie.Need-loop-holds Inv-loop μ-loop
-loop-holds c = omega arith
-
-add-count : tie.Need-add-count Inv-loop μ-loop
-add-count c = omega (arith, most (c .before .before))
-
-loop-less : tie.Need-loop-less Inv-loop μ-loop
-loop-less c = omega arith
-
 loop-again : tie.Need-loop-again Inv-loop μ-loop
 loop-again c = omega (arith, two-digits-longer (c .before .loop .left) (omega arith))
-
-add-result : tie.Need-add-result Inv-loop μ-loop
-add-result c = omega (arith, most (c .before .before .before))
-
-add-result-2 : tie.Need-add-result-2 Inv-loop μ-loop
-add-result-2 c = omega (arith, most (c .before .before .before))
 
 returns : tie.Need-returns Inv-loop μ-loop
 returns c = omega (arith, ap length (two-digits (c .before .before .loop .left) (omega arith) (omega arith)))
@@ -44,14 +29,5 @@ returns-2 c = omega (arith, ap length (one-digit (c .before .before .loop .left)
 pub digits-spec : {M : Type 1} → statement M
 digits-spec =
     tie.close
-    (tie.spec
-    Inv-loop
-    μ-loop
-    loop-holds
-    add-count
-    loop-less
-    loop-again
-    add-result
-    add-result-2
-    returns
-    returns-2)
+    (tie.spec Inv-loop μ-loop (λ c. omega arith) (λ c. omega (arith, most (c .before .before))) (λ c. omega arith) loop-again
+    (λ c. omega (arith, most (c .before .before .before))) (λ c. omega (arith, most (c .before .before .before))) returns returns-2)

@@ -3,9 +3,9 @@ use mathlib.Core.Path.{refl}
 use native.Mathlib.Omega.{arith}
 use native.Mathlib.Nat.{add-sub-cancel-left}
 use denote.Ref.{now}
-use Rattle.model.specs.Accesses.{transferOf}
+use Rattle.model.specs.Transfer.{requestOf}
 use Rattle.settings.specs.Bridge.{settingsAs}
-use Rattle.source.specs.PartLaws.{Cases, cases}
+use Rattle.source.specs.Laws.{Cases, cases}
 use borrow.Author.Needs.{needs}
 use Rattle.source.proofs.source.Statement.{statement}
 use Rattle.source.proofs.source.Tie as tie
@@ -13,22 +13,10 @@ use Rattle.source.proofs.source.Tie as tie
 -- what the refusal says of the request
 known : (c : tie.After-refusal-of) →
     let a = c .before .before .before .args in
-    Cases (settingsAs (a .settings)) (now (a .shared)) (now (a .window)) (transferOf (a .direction) (a .a) (a .b) (a .c)) (c .refusal-of .result)
+    Cases (settingsAs (a .settings)) (now (a .shared)) (now (a .window)) (requestOf (a .direction) (a .a) (a .b) (a .c)) (c .refusal-of .result)
 known c =
     let a = c .before .before .before .args in
-    cases (settingsAs (a .settings)) (now (a .shared)) (now (a .window)) (transferOf (a .direction) (a .a) (a .b) (a .c)) _ (c .refusal-of .ensures (now (a .shared)) (now (a .window)) refl refl)
-
-refusal-of-requires : tie.Need-refusal-of-requires
-refusal-of-requires c κs = search needs
-
-sub-result : tie.Need-sub-result
-sub-result c = search needs
-
-part-result-start : tie.Need-part-result-start
-part-result-start c = search needs
-
-part-result-end : tie.Need-part-result-end
-part-result-end c = search needs
+    cases _ _ _ _ _ (c .refusal-of .ensures (now (a .shared)) (now (a .window)) refl refl)
 
 returns : tie.Need-returns
 returns c = rw (known (c .before .before) .refused (c .before .if1 .taken))
@@ -37,15 +25,6 @@ offset-requires : tie.Need-offset-requires
 offset-requires c κs =
     let pass = c .before in
     known (pass .before) .windowHolds (pass .if1 .left) (c .if2 .taken) .0
-
-add-end : tie.Need-add-end
-add-end c = search needs
-
-sub-result-2 : tie.Need-sub-result-2
-sub-result-2 c = search needs
-
-part-result-start-2 : tie.Need-part-result-start-2
-part-result-start-2 c = search needs
 
 part-result-end-2 : tie.Need-part-result-end-2
 part-result-end-2 c =
@@ -58,15 +37,6 @@ returns-2 c =
     let o = c .before in
     let pass = o .before .before in
     rw (known (pass .before) .inWindow (pass .if1 .left) (o .before .if2 .taken), o .offset .ensures, add-sub-cancel-left)
-
-add-end-2 : tie.Need-add-end-2
-add-end-2 c = search needs
-
-sub-result-3 : tie.Need-sub-result-3
-sub-result-3 c = search needs
-
-part-result-start-3 : tie.Need-part-result-start-3
-part-result-start-3 c = search needs
 
 part-result-end-3 : tie.Need-part-result-end-3
 part-result-end-3 c =
@@ -81,20 +51,6 @@ returns-3 c =
 pub source-spec : {M : Type 1} → statement M
 source-spec =
     tie.close
-    (tie.spec
-    refusal-of-requires
-    sub-result
-    part-result-start
-    part-result-end
-    returns
-    offset-requires
-    add-end
-    sub-result-2
-    part-result-start-2
-    part-result-end-2
-    returns-2
-    add-end-2
-    sub-result-3
-    part-result-start-3
-    part-result-end-3
-    returns-3)
+    (tie.spec (λ c κs. search needs) (λ c. search needs) (λ c. search needs) (λ c. search needs) returns offset-requires (λ c. search needs)
+    (λ c. search needs) (λ c. search needs) part-result-end-2 returns-2 (λ c. search needs) (λ c. search needs) (λ c. search needs)
+    part-result-end-3 returns-3)

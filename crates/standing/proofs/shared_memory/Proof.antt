@@ -1,6 +1,6 @@
 -- `standing::shared_memory` meets its contract by computation.
 use mathlib.Core.Path.{refl}
-use Rattle.standing.specs.Standings.{zeros}
+use Rattle.standing.specs.Bridge.{zeros}
 use Rattle.standing.proofs.shared_memory.Statement.{statement}
 use Rattle.standing.proofs.shared_memory.Tie as tie
 

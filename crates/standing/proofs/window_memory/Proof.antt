@@ -1,6 +1,6 @@
 -- `standing::window_memory` meets its contract by computation.
 use mathlib.Core.Path.{refl}
-use Rattle.standing.specs.Standings.{zeros}
+use Rattle.standing.specs.Bridge.{zeros}
 use Rattle.standing.proofs.window_memory.Statement.{statement}
 use Rattle.standing.proofs.window_memory.Tie as tie
 

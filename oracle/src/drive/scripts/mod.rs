@@ -12,6 +12,9 @@ use super::faults::{faultless, faults};
 use super::sides::{HOST, LOCAL};
 use memories::borders;
 
+/// Performs planned accesses.
+pub type Script = fn(&mut Builder);
+
 /// The accesses of `all_refused`: random ones follow them in every list.
 const PLANNED_REFUSALS: usize = 42;
 

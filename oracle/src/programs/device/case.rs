@@ -6,7 +6,7 @@ use crate::decimal::line;
 use crate::drive::plans::First;
 use crate::settings::Settings;
 use crate::source::source;
-use crate::transfer::{Running, Transfer, SHARED_LENGTH};
+use crate::transfer::{Running, Transfer};
 use crate::world::World;
 
 /// The first number of a case's head.
@@ -28,18 +28,13 @@ pub struct Memories {
 }
 
 impl Memories {
-    /// The memories of the case with this number. Each case takes two seeds, one for each memory.
-    pub fn of_case(number: usize, shared_length: u32, window_length: u32) -> Memories {
+    /// The memories with this number. Each number stands for two seeds, one for each memory.
+    pub fn new(number: u32, shared_length: u32, window_length: u32) -> Memories {
         Memories {
             shared_length,
             window_length,
-            seed: 2 * number as u32,
+            seed: 2 * number,
         }
-    }
-
-    /// The same, with shared memory of the right length.
-    pub fn fit(number: usize, window_length: u32) -> Memories {
-        Memories::of_case(number, SHARED_LENGTH, window_length)
     }
 
     fn shared(&self) -> Vec<u8> {

@@ -8,10 +8,11 @@ use crate::card::{fresh, Card, FIFOS, PAIRS};
 use crate::drive::builder::Builder;
 use crate::drive::coverage::{required, Coverage};
 use crate::drive::faults::faultless;
-use crate::drive::plans::{plans, First, MIDDLE};
+use crate::drive::plans::{plans, Faults, First, MIDDLE, NUMBERED};
 use crate::drive::sides::{by_both, putter, taker, HOST, LOCAL};
 use crate::refusal::LAST_KIND;
 use crate::rng::Rng;
+use crate::seeds::Seeds;
 use crate::settings::{Settings, LENGTH_LIMIT};
 use crate::transfer::{Running, Transfer, SHARED_LENGTH};
 use crate::vectors::{fresh as settings_cases, sound, source};
@@ -27,15 +28,88 @@ const RANDOM_SOURCES: usize = 60;
 
 const LARGEST: Settings = Settings::new(0xFFFF_0000, 65_536, 32_768, 49_152);
 
+/// Where the memories' numbers of each section begin. A section that is not named here begins at
+/// a number of its name.
+const FIRSTS: [(&str, u32); 23] = [
+    ("records: settings", 0),
+    ("records: fifos", 35),
+    ("records: pairs", 48),
+    ("records: mailboxes", 60),
+    ("records: registers", 70),
+    ("records: transfers", 126),
+    ("records: random sound", 161),
+    ("records: random", 173),
+    ("records: further", 189),
+    ("lengths", 222),
+    ("settings", 269),
+    ("random", 349),
+    ("sources: sizes, direction 0", 469),
+    ("sources: addresses, direction 0", 485),
+    ("sources: windows, direction 0", 502),
+    ("sources: causes of 1, direction 0", 528),
+    ("sources: sizes, direction 1", 545),
+    ("sources: addresses, direction 1", 561),
+    ("sources: windows, direction 1", 578),
+    ("sources: causes of 1, direction 1", 604),
+    ("sources: directions", 621),
+    ("sources: two at once", 627),
+    ("sources: random", 637),
+];
+/// A number of a name is below this.
+const NUMBER_LIMIT: u64 = 1_000_000;
+/// The lists' memories are numbered by the lists' names.
+const LIST_NUMBERS: Seeds = Seeds::new(325, &NUMBERED);
+const LIST_SEEDS: Seeds = Seeds::new(SEED, &NUMBERED);
+
+/// The cases, in sections. Further cases go to the end of a section, or into a new section: the
+/// memories and draws of the others stay.
+#[derive(Default)]
+struct Cases {
+    cases: Vec<Case>,
+    /// Of the next case's memories.
+    number: u32,
+}
+
+impl Cases {
+    fn section(&mut self, name: &str) {
+        let known = FIRSTS.iter().find(|(known, _)| *known == name);
+        self.number = match known {
+            Some((_, first)) => *first,
+            None => number(&Seeds::new(0, &[]), name),
+        };
+    }
+
+    fn memories(&mut self, shared_length: u32, window_length: u32) -> Memories {
+        let number = self.number;
+        self.number += 1;
+        Memories::new(number, shared_length, window_length)
+    }
+
+    fn add_accesses(&mut self, first: &First, memories: &Memories, accesses: &[Access]) {
+        self.cases
+            .push(Case::of_accesses(first, memories, accesses));
+    }
+
+    fn add_requests(&mut self, settings: Settings, memories: &Memories, transfers: &[Transfer]) {
+        self.cases
+            .push(Case::of_requests(settings, memories, transfers));
+    }
+}
+
+fn number(seeds: &Seeds, name: &str) -> u32 {
+    (seeds.of(name) % NUMBER_LIMIT) as u32
+}
+
 pub fn cases() -> Vec<Case> {
-    let mut cases = Vec::new();
+    let mut cases = Cases::default();
     records(&mut cases);
     lengths(&mut cases);
     settings(&mut cases);
     planned(&mut cases);
     random(&mut cases);
     sources(&mut cases);
-    cases
+    random_sources(&mut cases);
+    cases.cases
 }
 
 /// Every kind but a reset, and what tells of each part of the record.
@@ -72,27 +146,35 @@ fn every_kind(settings: &Settings) -> Vec<Access> {
 }
 
 /// Sound and unsound records, each rule alone, at its border.
-fn records(cases: &mut Vec<Case>) {
+fn records(cases: &mut Cases) {
     let mut unsound = 0;
-    let given = sound::cases().into_iter().map(|(card, _)| card);
-    let written_down = |card: &Card| card.fifos.len() == FIFOS && card.pairs.len() == PAIRS;
-    for card in given.chain(further_records()).filter(written_down) {
+    for sound::Section { name, cases: given } in sound::sections() {
+        cases.section(&format!("records: {name}"));
+        // the stdin of a case has room for four FIFOs and four pairs
+        let written_down = |card: &Card| card.fifos.len() == FIFOS && card.pairs.len() == PAIRS;
+        let cards = given.into_iter().map(|(card, _)| card);
+        unsound += add_records(cases, cards.filter(written_down).collect());
+    }
+    cases.section("records: further");
+    unsound += add_records(cases, further_records());
+    let all = cases.cases.len();
+    assert!(unsound >= 100 && all >= unsound + 80, "{unsound} of {all}");
+}
+
+/// Adds a case of each record, and says how many are unsound.
+fn add_records(cases: &mut Cases, cards: Vec<Card>) -> usize {
+    let unsound = cards.iter().filter(|card| !card.sound()).count();
+    for card in cards {
         let settings = card.settings;
         let accesses = if card.sound() {
             probe(&settings)
         } else {
-            unsound += 1;
             every_kind(&settings)
         };
-        let memories = Memories::fit(cases.len(), settings.length.min(LENGTH_LIMIT));
-        let first = First::Record(card);
-        cases.push(Case::of_accesses(&first, &memories, &accesses));
+        let memories = cases.memories(SHARED_LENGTH, settings.length.min(LENGTH_LIMIT));
+        cases.add_accesses(&First::Record(card), &memories, &accesses);
     }
-    assert!(
-        unsound >= 100 && cases.len() >= unsound + 80,
-        "{unsound} of {}",
-        cases.len()
-    );
+    unsound
 }
 
 /// Numbers that are sound once they are cut to fewer bits.
@@ -137,12 +219,12 @@ fn further_records() -> Vec<Card> {
 }
 
 /// Memories of wrong lengths.
-fn lengths(cases: &mut Vec<Case>) {
+fn lengths(cases: &mut Cases) {
+    cases.section("lengths");
     let mut add = |settings: Settings, shared_length, window_length| {
-        let first = First::Fresh(settings);
-        let memories = Memories::of_case(cases.len(), shared_length, window_length);
+        let memories = cases.memories(shared_length, window_length);
         let accesses = every_kind(&settings);
-        cases.push(Case::of_accesses(&first, &memories, &accesses));
+        cases.add_accesses(&First::Fresh(settings), &memories, &accesses);
     };
     for shared in [0, 4, 8192, 16_380, 16_383, 16_385, 16_388, 32_768, 65_536] {
         add(MIDDLE, shared, MIDDLE.length);
@@ -174,7 +256,8 @@ fn lengths(cases: &mut Vec<Case>) {
 
 /// Settings that pass and settings that fail, with the window of the card that they give, and
 /// failing ones with a window of the length that they ask for.
-fn settings(cases: &mut Vec<Case>) {
+fn settings(cases: &mut Cases) {
+    cases.section("settings");
     for (settings, passes) in settings_cases::CASES {
         let given = fresh(settings).1.settings;
         let mut lengths = BTreeSet::from([given.length]);
@@ -184,52 +267,66 @@ fn settings(cases: &mut Vec<Case>) {
         let first = First::Fresh(settings);
         let accesses = [probe(&given), probe(&settings)].concat();
         for length in lengths {
-            let memories = Memories::fit(cases.len(), length);
-            cases.push(Case::of_accesses(&first, &memories, &accesses));
+            let memories = cases.memories(SHARED_LENGTH, length);
+            cases.add_accesses(&first, &memories, &accesses);
         }
     }
 }
 
 /// The planned lists, each with all faults: between them they reach every required fact, or this
 /// panics.
-fn planned(cases: &mut Vec<Case>) {
+fn planned(cases: &mut Cases) {
     let mut coverage = Coverage::default();
-    for (mut plan, number) in plans().into_iter().zip(0..) {
-        plan.faults = plan.faults.map(|_| (0, 1));
-        let memories = Memories::of_case(cases.len(), plan.shared_length, plan.window_length);
+    for mut plan in plans() {
+        plan.faults = plan.faults.map(|_| Faults::ALL);
+        let number = number(&LIST_NUMBERS, plan.name);
+        let memories = Memories::new(number, plan.shared_length, plan.window_length);
         let world = memories.world(&plan.first);
-        let mut builder = Builder::new(world, Rng::new(SEED + number), &mut coverage);
+        let rng = Rng::new(LIST_SEEDS.of(plan.name));
+        let mut builder = Builder::new(world, rng, &mut coverage);
         builder.follow(&plan, PLANNED);
         let accesses = builder.accesses();
-        cases.push(Case::of_accesses(&plan.first, &memories, &accesses));
+        cases.add_accesses(&plan.first, &memories, &accesses);
     }
     coverage.assert_reached(required::facts());
 }
 
 /// Random accesses to random records.
-fn random(cases: &mut Vec<Case>) {
+fn random(cases: &mut Cases) {
+    cases.section("random");
     let mut rng = Rng::new(SEED - 1);
     let mut coverage = Coverage::default();
     for _ in 0..RANDOM_LISTS {
         let first = First::Record(arbitrary::sound_card(&mut rng));
-        let memories = Memories::fit(cases.len(), first.settings().length);
+        let memories = cases.memories(SHARED_LENGTH, first.settings().length);
         let world = memories.world(&first);
         let mut builder = Builder::new(world, Rng::new(rng.number()), &mut coverage);
         for _ in 0..RANDOM {
             builder.random();
         }
         let accesses = builder.accesses();
-        cases.push(Case::of_accesses(&first, &memories, &accesses));
+        cases.add_accesses(&first, &memories, &accesses);
     }
 }
 
-/// Source requests: those of the vectors, and random ones over large windows.
-fn sources(cases: &mut Vec<Case>) {
-    for request in source::cases() {
-        let memories = Memories::of_case(cases.len(), request.shared_length, request.window_length);
-        let transfers = [request.transfer];
-        cases.push(Case::of_requests(request.settings, &memories, &transfers));
+/// The source requests of the vectors.
+fn sources(cases: &mut Cases) {
+    for source::Section {
+        name,
+        cases: requests,
+    } in source::sections()
+    {
+        cases.section(&format!("sources: {name}"));
+        for request in requests {
+            let memories = cases.memories(request.shared_length, request.window_length);
+            cases.add_requests(request.settings, &memories, &[request.transfer]);
+        }
     }
+}
+
+/// Random source requests over large windows.
+fn random_sources(cases: &mut Cases) {
+    cases.section("sources: random");
     let mut rng = Rng::new(SEED - 2);
     for settings in [Settings::REPLAY, LARGEST] {
         let random = |_| {
@@ -239,7 +336,7 @@ fn sources(cases: &mut Vec<Case>) {
             Transfer::new(rng.below(2) as u8, shared, pci, size)
         };
         let transfers: Vec<Transfer> = (0..RANDOM_SOURCES).map(random).collect();
-        let memories = Memories::fit(cases.len(), settings.length);
-        cases.push(Case::of_requests(settings, &memories, &transfers));
+        let memories = cases.memories(SHARED_LENGTH, settings.length);
+        cases.add_requests(settings, &memories, &transfers);
     }
 }

@@ -5,7 +5,7 @@ use crate::card::FIFO_DEPTH;
 use crate::drive::builder::Builder;
 use crate::drive::coverage::{required, Coverage};
 use crate::drive::faults::faults;
-use crate::drive::scripts::{memories, registers, transfers};
+use crate::drive::scripts::{memories, registers, transfers, Script};
 use crate::drive::sides::{by_both, taker, HOST, LOCAL};
 use crate::replay::bench;
 use crate::rng::Rng;
@@ -22,7 +22,9 @@ const LONGEST_ROUND: usize = 5000;
 /// How often a round of the trace is of each kind, in the order of `round`.
 const WEIGHTS: [u32; 5] = [5, 3, 5, 2, 2];
 
-pub const SCRIPTS: [fn(&mut Builder); 15] = [
+/// Rounds pick among these by number: a further script would change every record behind the first
+/// pick, and has a short trace instead.
+const SCRIPTS: [Script; 15] = [
     memories::borders,
     memories::lanes,
     registers::inbound_free,

@@ -1,6 +1,6 @@
 -- `events::EventSet::remove` meets its contract: the law of `and-not` at 32 bits.
 use borrow.Author.Needs.{needs}
-use Rattle.events.specs.Complement.{and-not}
+use Rattle.events.specs.Laws.{and-not}
 use Rattle.events.proofs.EventSet.remove.Statement.{statement}
 use Rattle.events.proofs.EventSet.remove.Tie as tie
 

@@ -3,11 +3,8 @@ use borrow.Author.Needs.{needs}
 use Rattle.events.proofs.Register.raise.Statement.{statement}
 use Rattle.events.proofs.Register.raise.Tie as tie
 
-insert-requires : tie.Need-insert-requires
-insert-requires c κs = search needs
-
 returns : tie.Need-returns
 returns c = rw (c .insert .ensures)
 
 pub raise-spec : {M : Type 1} → statement M
-raise-spec = tie.close (tie.spec insert-requires returns)
+raise-spec = tie.close (tie.spec (λ c κs. search needs) returns)

@@ -6,20 +6,11 @@ use borrow.Author.Needs.{needs}
 use Rattle.events.proofs.Register.value.Statement.{statement}
 use Rattle.events.proofs.Register.value.Tie as tie
 
-insert-requires : tie.Need-insert-requires
-insert-requires c κs = search needs
-
-mul-result : tie.Need-mul-result
-mul-result c = search needs
-
 add-result : tie.Need-add-result
 add-result c =
     let set = c .before .before .insert in
     let fits : set .result .0 < 65536 = rw (set .ensures) (search (needs, or-lt 16)) in
     record { fits = omega arith }
 
-returns : tie.Need-returns
-returns c = search needs
-
 pub value-spec : {M : Type 1} → statement M
-value-spec = tie.close (tie.spec insert-requires mul-result add-result returns)
+value-spec = tie.close (tie.spec (λ c κs. search needs) (λ c. search needs) add-result (λ c. search needs))

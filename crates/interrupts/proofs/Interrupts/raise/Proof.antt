@@ -1,19 +1,10 @@
 -- `interrupts::Interrupts::raise` meets its contract: one side's register, with the events in its status.
 use Rattle.model.specs.Sides.{sideOf}
-use Rattle.events.specs.Registers.{raisedAll}
-use Rattle.interrupts.specs.Bridge.{written-back}
+use Rattle.events.specs.Bridge.{raisedAll}
+use Rattle.interrupts.specs.Laws.{written-back}
 use borrow.Author.Needs.{needs}
 use Rattle.interrupts.proofs.Interrupts.raise.Statement.{statement}
 use Rattle.interrupts.proofs.Interrupts.raise.Tie as tie
-
-register-requires : tie.Need-register-requires
-register-requires c κs = search needs
-
-raise-requires : tie.Need-raise-requires
-raise-requires c κs = search needs
-
-with-requires : tie.Need-with-requires
-with-requires c κs = search needs
 
 returns : tie.Need-returns
 returns c =
@@ -22,4 +13,4 @@ returns c =
     written-back (sideOf (a .side)) (raisedAll (a .events .0)) _ _ _ _ (g .register .ensures) (c .before .raise .ensures) (c .with .ensures)
 
 pub raise-spec : {M : Type 1} → statement M
-raise-spec = tie.close (tie.spec register-requires raise-requires with-requires returns)
+raise-spec = tie.close (tie.spec (λ c κs. search needs) (λ c κs. search needs) (λ c κs. search needs) returns)

@@ -1,7 +1,7 @@
 -- `mailboxes::Mailboxes::label` meets its contract: on a host read of a mailbox written since reset, the label that the bay has.
 use Rattle.model.specs.SideLaws.{side-host, side-local}
 use Rattle.mailboxes.specs.Bridge.{mailboxesAs}
-use Rattle.mailboxes.specs.Bridge.{label-host}
+use Rattle.mailboxes.specs.Laws.{label-host}
 use borrow.Author.Needs.{needs}
 use Rattle.mailboxes.proofs.Mailboxes.label.Statement.{statement}
 use Rattle.mailboxes.proofs.Mailboxes.label.Tie as tie
@@ -9,23 +9,11 @@ use Rattle.mailboxes.proofs.Mailboxes.label.Tie as tie
 returns : tie.Need-returns
 returns c = rw (side-local _ (c .if1 .taken))
 
-cast-t6 : tie.Need-cast-t6
-cast-t6 c = search needs
-
-label-requires : tie.Need-label-requires
-label-requires c κs = search needs
-
-cast-result : tie.Need-cast-result
-cast-result c = search needs
-
 returns-2 : tie.Need-returns-2
 returns-2 c =
     let w = c .before .before .before in
     let e = w .before in
     label-host _ (mailboxesAs (e .before .args .self)) _ (side-host _ (e .if1 .left)) (w .if2 .taken) (c .before .label .ensures)
 
-returns-3 : tie.Need-returns-3
-returns-3 c = search needs
-
 pub label-spec : {M : Type 1} → statement M
-label-spec = tie.close (tie.spec returns cast-t6 label-requires cast-result returns-2 returns-3)
+label-spec = tie.close (tie.spec returns (λ c. search needs) (λ c κs. search needs) (λ c. search needs) returns-2 (λ c. search needs))

@@ -4,11 +4,8 @@ use borrow.Author.Needs.{needs}
 use Rattle.mailboxes.proofs.Mailboxes.read.Statement.{statement}
 use Rattle.mailboxes.proofs.Mailboxes.read.Tie as tie
 
-returns : tie.Need-returns
-returns c = search needs
-
 returns-2 : tie.Need-returns-2
 returns-2 c = rw (side-local _ (c .if1 .left))
 
 pub read-spec : {M : Type 1} → statement M
-read-spec = tie.close (tie.spec returns returns-2)
+read-spec = tie.close (tie.spec (λ c. search needs) returns-2)

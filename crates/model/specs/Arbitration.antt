@@ -1,0 +1,46 @@
+-- Document 01, "FIFOs and flags": the four pairs of arbitration flags.
+use mathlib.Core.Bool.{Bool, false, not, _&&_}
+use mathlib.Core.List.{List}
+use Prim.Native.Nat.{ℕ}
+use lib.ListN.{length, getD, set, replicate}
+use lib.Dec.{eqb}
+use Rattle.model.specs.Choice.{every}
+use Rattle.model.specs.Sides.{Side, host, local}
+
+-- "four pairs of arbitration flags": a pair has a flag of each side
+pub record Pair : Type 0 where
+  pub ofHost : Bool
+  pub ofLocal : Bool
+
+abbrev pub Arbitration : Type 0
+Arbitration = List Pair
+
+-- fresh: both clear
+abbrev pub freshPair : Pair
+freshPair = record { ofHost = false; ofLocal = false }
+
+abbrev pub freshArbitration : Arbitration
+freshArbitration = replicate 4 freshPair
+
+-- "no pair has both flags set"
+abbrev pub pairSound : Pair → Bool
+pairSound p = not (p .ofHost && p .ofLocal)
+
+abbrev pub arbitrationSound : Arbitration → Bool
+arbitrationSound ps = eqb (length ps) 4 && every pairSound ps
+
+-- pair i, and a side's flag of a pair
+abbrev pub pairOf : Arbitration → (i : ℕ) → Pair
+pairOf ps i = getD ps i freshPair
+
+abbrev pub flag : Side → Pair → Bool
+flag host p = p .ofHost
+flag local p = p .ofLocal
+
+-- a side's flag set or cleared: of a pair, of pair i
+abbrev pub withFlag : Side → Bool → Pair → Pair
+withFlag host b p = record { ofHost = b; ofLocal = p .ofLocal }
+withFlag local b p = record { ofHost = p .ofHost; ofLocal = b }
+
+abbrev pub withFlagOf : Side → (i : ℕ) → Bool → Arbitration → Arbitration
+withFlagOf side i b ps = set ps i (withFlag side b (pairOf ps i))

@@ -1,0 +1,28 @@
+-- The number of a record beside the checks of what stands there: 22 is given after 20 and 21, and before 23.
+use mathlib.Core.Path.{_≡_, refl}
+use mathlib.Core.Bool.{Bool, true, false, not, _&&_}
+use mathlib.Core.List.{List, [], _∷_}
+use Prim.Native.Nat.{ℕ}
+use lib.ListN.{length, getD}
+use lib.Dec.{eqb, ltb}
+use borrow.Author.Tests.{eq-eqb}
+use Rattle.model.specs.Choice.{if_then_else_}
+use Rattle.model.specs.Checks.{_for_, refusal}
+use Rattle.model.specs.Trace.{traceChecks}
+use Rattle.trace.specs.Bridge.{recordNumber, damage}
+
+abbrev given : (short unmarked unexpected nonzero : Bool) → ℕ
+given short unmarked unexpected nonzero = refusal (20 for short ∷ 21 for unmarked ∷ 22 for unexpected ∷ 23 for nonzero ∷ [])
+
+between : (s m u z : Bool) → given s m u z ≡ (if eqb (given s m false z) 20 then 20 else (if eqb (given s m false z) 21 then 21 else (if u then 22 else given s m false z)))
+between true m u z = refl
+between false true u z = refl
+between false false u true = refl
+between false false u false = refl
+
+-- the refusal by what is damaged, `d`, and the number
+pub numbered : (bytes : List ℕ) (expected d : ℕ) → d ≡ damage bytes
+    → refusal (traceChecks bytes expected) ≡ (if eqb d 20 then 20 else (if eqb d 21 then 21 else (if not (eqb (recordNumber bytes) expected) then 22 else d)))
+numbered bytes expected d h =
+    rw (h, eq-eqb (recordNumber bytes) (recordNumber bytes) refl)
+    (between (ltb (length bytes) 20) (not (eqb (getD bytes 0 0) 0x42 && eqb (getD bytes 1 0) 0x50)) (not (eqb (recordNumber bytes) expected)) (not (eqb (getD bytes 7 0) 0)))

@@ -1,2 +1,0 @@
-pub mod StepFits
-pub mod StepLaws

@@ -1,0 +1,110 @@
+//! The `use` lines of a file: of all names that stand elsewhere, those that the file uses.
+
+use std::collections::BTreeSet;
+
+/// Modules, and what may be used of each.
+const OFFERED: [(&str, &[&str]); 12] = [
+    ("mathlib.Core.Path", &["refl"]),
+    ("mathlib.Core.Bool", &["true", "false"]),
+    ("mathlib.Core.List", &["List", "[]", "_∷_"]),
+    ("Rattle.model.specs.Lanes", &["readDword", "writeDword"]),
+    ("Rattle.model.specs.Transfer", &["running"]),
+    (
+        "Rattle.model.specs.State",
+        &[
+            "World",
+            "sound",
+            "freshCard",
+            "freshWorld",
+            "withFifos",
+            "withArbitration",
+            "withMailboxes",
+            "withInterrupts",
+            "withTransfer",
+        ],
+    ),
+    ("Rattle.model.specs.Runs", &["Entry"]),
+    (
+        "Rattle.model.specs.Accesses",
+        &["Access", "Answer", "access"],
+    ),
+    (
+        "Rattle.model.specs.Source",
+        &["sharedMemory", "windowMemory", "source"],
+    ),
+    ("Rattle.model.specs.Pins", &["decode"]),
+    ("Rattle.model.specs.Bench", &["q", "r", "_gives_"]),
+    (
+        "Rattle.cases.specs.Vectors",
+        &[
+            "settings",
+            "pair",
+            "mail",
+            "interrupts",
+            "request",
+            "untouched",
+            "world",
+            "bytes",
+            "part",
+            "RunAgrees",
+            "SourceCase",
+            "sourceCase",
+            "SourcesAgree",
+            "PinCase",
+            "pinCase",
+            "PinsAgree",
+            "SoundCase",
+            "soundCase",
+            "SoundnessAgrees",
+            "FreshCase",
+            "freshCase",
+            "FreshAgrees",
+        ],
+    ),
+];
+
+/// The lines for a text, which names nothing but what is offered or its own.
+pub fn uses(text: &str) -> String {
+    let words = words(text);
+    OFFERED
+        .iter()
+        .filter_map(|(module, names)| use_line(module, names, &words))
+        .collect()
+}
+
+/// The words outside of comments.
+fn words(text: &str) -> BTreeSet<&str> {
+    let lines = text.lines().filter(|line| !line.starts_with("--"));
+    lines
+        .flat_map(|line| line.split([' ', '(', ')', ',']))
+        .collect()
+}
+
+fn use_line(module: &str, names: &[&str], words: &BTreeSet<&str>) -> Option<String> {
+    // an operator is offered as `_∷_` and written without its places
+    let used = |name: &&&str| words.contains(name.trim_matches('_'));
+    let names: Vec<&str> = names.iter().filter(used).copied().collect();
+    (!names.is_empty()).then(|| format!("use {module}.{{{}}}\n", names.join(", ")))
+}
+
+#[cfg(test)]
+mod tests {
+    use super::uses;
+
+    #[test]
+    fn only_what_is_used() {
+        let text = "-- a list of mail\nlast : World\nlast = world (untouched x) (bytes [])\n";
+        let lines = "use mathlib.Core.List.{[]}\n\
+                     use Rattle.model.specs.State.{World}\n\
+                     use Rattle.cases.specs.Vectors.{untouched, world, bytes}\n";
+        assert_eq!(uses(text), lines);
+    }
+
+    #[test]
+    fn operators_by_their_sign() {
+        let text = "x = q 1 gives r 0 ∷ y";
+        let lines = "use mathlib.Core.List.{_∷_}\n\
+                     use Rattle.model.specs.Bench.{q, r, _gives_}\n";
+        assert_eq!(uses(text), lines);
+    }
+}
