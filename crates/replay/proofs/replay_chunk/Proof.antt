@@ -1,24 +1,44 @@
--- `replay_chunk` meets its contract: what is read fits the input buffer, so it has at most 3,276 records.
+-- `replay_chunk` meets its contract: what is at hand fits the input buffer, so it has at most 3,276 records; what is written is their text.
+use mathlib.Core.Path.{refl}
+use Prim.Native.Nat.{_-_, _≤_}
+use native.Mathlib.Nat.{sub-zero}
 use native.Mathlib.Omega.{arith}
+use lib.ListN.{length, take}
+use lib.Seq.{length-take-le}
 use borrow.Author.Needs.{needs}
+use Rattle.replay.specs.Laws.{turned}
 use Rattle.replay.proofs.replay_chunk.Statement.{statement}
 use Rattle.replay.proofs.replay_chunk.Tie as tie
 
--- reading fills the buffer and keeps its length
+abbrev hand : tie.After-answer-chunk-arg4 → tie.After-at-hand
+hand c = c .before .before .before .before .before
+
+abbrev answered : tie.After-struct-known3 → tie.After-answer-chunk
+answered c = c .before .before .before .before .before .before .before .before .before .before .before .before .before .before .before
+
+bytes : (c : tie.After-answer-chunk-arg4) → length (take (hand c .at-hand .result - 0) (hand c .before .before .before .read-chunk .last .0)) ≤ 65520
+bytes c =
+    let input = hand c .before .before in
+    let read = input .before in
+    rw (sub-zero, length-take-le (hand c .at-hand .result) (read .read-chunk .last .0) (omega (arith, read .read-chunk .ensures .fits, hand c .at-hand .ensures .1)))
+    (omega (arith, read .read-chunk .ensures .fits, hand c .at-hand .ensures .1, input .input .given))
+
+answer-chunk-requires : tie.Need-answer-chunk-requires
+answer-chunk-requires c κs = (omega (arith, bytes c), omega (arith, bytes c))
+
 same-length-3 : tie.Need-same-length-3
-same-length-3 c =
-    let chunk = c .before .before .before .before .before .before .before .before .before .before .before in
-    search (needs, chunk .before .before .before .before .before .before .before .input .given)
+same-length-3 c = search (needs, hand (answered c .before) .before .before .input .given)
 
 returns : tie.Need-returns
 returns c =
-    let chunk = c .before .before .before .before .before .before .before .before .before .before .before in
-    let input = chunk .before .before .before .before .before .before .before in
-    omega (arith, chunk .answer-chunk .ensures .1 .1, input .input .given, input .before .read-full .ensures, input .before .before .before .before .before .before .before .pre .0)
+    let answer = answered c .answer-chunk .ensures in (
+      turned _ (hand (answered c .before) .at-hand .ensures .0) (answer .0) (answer .1 .0) (c .before .before .before .written .ensures) refl,
+      omega (arith, answer .1 .1, bytes (answered c .before)),
+    )
 
 pub replay-chunk-spec : {M : Type 1} → statement M
 replay-chunk-spec =
     tie.close
-    (tie.spec (λ c κs. search needs) (λ c. search needs) (λ c. search needs) (λ c. search needs) (λ c κs. search needs) (λ c. search needs)
-    (λ c. search needs) (λ c. search needs) (λ c κs. search needs) (λ c. search needs) (λ c. search needs) same-length-3 (λ c. search needs)
-    returns)
+    (tie.spec (λ c κs. search needs) (λ c κs. search needs) (λ c. search needs) (λ c. search needs) (λ c. search needs)
+    answer-chunk-requires (λ c. search needs) (λ c. search needs) (λ c. search needs) (λ c κs. search needs) (λ c κs. search needs)
+    (λ c κs. search needs) (λ c. search needs) (λ c. search needs) same-length-3 (λ c. search needs) returns)
