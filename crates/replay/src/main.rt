@@ -1,32 +1,17 @@
 // Document 01, "Trace and replay": replays the trace of standard input, and writes the answers to standard output. Where a read or a write
 // fails there is no last line, and standard error says which of the two it was, and after how many records.
 ghost use mathlib.Core.Path.{_≡_};
-ghost use Prim.Native.Nat.{_+_, _<_, _≤_, _^_};
+ghost use Prim.Native.Nat.{_≤_};
 ghost use lib.ListN.{length};
-ghost use Rattle.model.specs.Choice.{if_then_else_};
 ghost use Rattle.model.specs.Replay.{replayStart};
 ghost use Rattle.report.specs.Bridge.{Written};
 ghost use Rattle.standing.specs.Bridge.{standingAs};
-ghost use Rattle.replay.specs.Bridge.{Turned, Ended, closingText, faultText};
+ghost use Rattle.replay.specs.Bridge.{Ended, closingText, faultText};
 use standing::Standing;
-use stream::Chunk;
-
-// A chunk is 3,276 records of 20 bytes.
-const CHUNK: usize = 65520;
+use turn::Turn;
 
 // Every loop must have an end: 5 times 2 to the 50 chunks, whose records a u64 still counts. At 10 GB a second they last a thousand years.
 const CHUNKS: u64 = 5629499534213120;
-
-// A chunk replayed: what was read of it, where its text ends in the output buffer, where the replay stands then, whether the text was lost in a
-// write that failed, the records whose lines are written, and whether more is to be read.
-struct Turn {
-    chunk: Chunk,
-    end: usize,
-    standing: Standing,
-    lost: bool,
-    written: u64,
-    more: bool,
-}
 
 fn input_buffer() -> [u8; 65520]
     ensures { λ r. ⌜ length r ≡ 65520 ⌝ }
@@ -41,42 +26,6 @@ fn output_buffer() -> [u8; 104832]
     [0; 104832]
 }
 
-// Where a write failed, the lines of its chunk may be missing.
-fn written(lost: bool, before: u64, after: u64) -> u64
-    ensures { λ r. ⌜ r ≡ (if lost then before else after) ⌝ }
-{
-    if lost { before } else { after }
-}
-
-// Reads a chunk, answers its records and writes their text.
-fn replay_chunk(
-    start: Standing,
-    shared: &mut [u8],
-    window: &mut [u8],
-    input: &mut [u8],
-    out: &mut [u8],
-) -> Turn
-    requires { ⌜ (length (now input) ≡ 65520) × (length (now out) ≡ 104832) ⌝ }
-    requires { ⌜ start .count + 3276 < 2 ^ 64 ⌝ }
-    ensures { λ r. ⌜ Turned (standingAs start (now (shared .entry)) (now (window .entry))) r (now (input .exit)) (now (out .exit)) (now (shared .exit)) (now (window .exit)) ⌝ }
-    ensures { λ r. ⌜ r .standing .count ≤ start .count + 3276 ⌝ }
-{
-    let chunk = stream::read_chunk(input);
-    let size = chunk.at_hand();
-    let replayed = player::answer_chunk(start, shared, window, &input[0..size], out);
-    let end = replayed.end;
-    let lost = !io::write_all(1, stream::text(&out[0..], end));
-    let standing = replayed.standing;
-    Turn {
-        chunk: chunk,
-        end: end,
-        standing: standing,
-        lost: lost,
-        written: written(lost, start.count, standing.count),
-        more: (chunk.size == CHUNK) & !standing.stopped & !chunk.cut & !lost,
-    }
-}
-
 // Chunk after chunk, from the fresh card and zeroed memories.
 fn replay_input(
     start: Standing,
@@ -89,14 +38,16 @@ fn replay_input(
     requires { ⌜ (length (now input) ≡ 65520) × (length (now out) ≡ 104832) ⌝ }
     ensures { λ r. ⌜ Ended r (now (input .exit)) (now (out .exit)) (now (shared .exit)) (now (window .exit)) ⌝ }
 {
-    let mut turn = replay_chunk(start, shared, window, input, out);
-    let mut chunks: u64 = 1;
-    while turn.more && chunks < CHUNKS {
-        let standing = turn.standing;
-        turn = replay_chunk(standing, shared, window, input, out);
+    let mut standing = start;
+    let mut chunks: u64 = 0;
+    loop {
+        let turn = turn::replay_chunk(standing, shared, window, input, out);
         chunks += 1;
+        if !turn.more | (chunks == CHUNKS) {
+            return turn;
+        }
+        standing = turn.standing;
     }
-    turn
 }
 
 // "Then `end` and the count of records", unless the reader refused one, or a read or a write failed.

@@ -1,74 +1,85 @@
 -- A turn of the loop reads one chunk more behind full ones. The chunks that may still be read fall, and their records still fit the count.
-use mathlib.Core.Path.{_≡_, refl, sym, ap, _∙_}
-use mathlib.Core.Bool.{true≢false}
-use Prim.Native.Nat.{_-_, _*_, _<_, _≤_}
+use mathlib.Core.Path.{_≡_, refl, ap}
+use Prim.Native.Nat.{_+_, _-_, _*_, _<_, _≤_}
 use native.Mathlib.Omega.{arith}
 use lib.ListN.{length}
 use borrow.Author.Needs.{needs}
-use borrow.Author.Tests.{ltb-true, ltb-false}
 use Rattle.model.specs.Replay.{Standing}
-use Rattle.replay.specs.Bridge.{chunkBytes, mostChunks, Ran}
-use Rattle.replay.specs.Laws.{first-chunk, chunk-more}
+use Rattle.standing.specs.Bridge.{standingAs}
+use Rattle.turn.specs.Bridge.{chunkBytes}
+use Rattle.replay.specs.Bridge.{mostChunks, Reached}
+use Rattle.replay.specs.Laws.{none-yet, chunk-more, all-read, goes-on}
 use Rattle.replay.proofs.replay_input.Statement.{statement}
 use Rattle.replay.proofs.replay_input.Tie as tie
 
 abbrev Inv-loop : tie.InvT-loop
-Inv-loop shared₀ window₀ input₀ out₀ turn₀ chunks₀ shared window input out turn chunks =
+Inv-loop shared₀ window₀ input₀ out₀ standing₀ chunks₀ shared window input out standing chunks =
     (length shared ≡ length shared₀)
     × (length window ≡ length window₀)
     × (length input ≡ length input₀)
     × (length out ≡ length out₀)
     × (length input ≡ chunkBytes)
     × (length out ≡ 104832)
-    × (chunks ≤ mostChunks)
-    × (turn .standing .count ≤ 3276 * chunks)
-    × Ran chunks turn input out shared window
+    × (chunks < mostChunks)
+    × (standing .count ≤ 3276 * chunks)
+    × Reached chunks (standingAs standing shared window)
 
 abbrev μ-loop : tie.MeasureT-loop
-μ-loop shared₀ window₀ input₀ out₀ turn₀ chunks₀ shared window input out turn chunks = mostChunks - chunks
-
-abbrev first : tie.After-slice-known8 Inv-loop μ-loop → tie.After-replay-chunk Inv-loop μ-loop
-first c = c .before .before .before .before .before .before .before .before
-
-abbrev next : tie.After-slice-known12 Inv-loop μ-loop → tie.After-replay-chunk2 Inv-loop μ-loop
-next c = c .before .before .before .before .before .before .before .before
-
--- another chunk may still be read
-within : (c : tie.After-slice-known12 Inv-loop μ-loop) → next c .before .before .before .before .before .before .before .before .loop .chunks < mostChunks
-within c = ltb-true _ _ (next c .before .before .before .before .before .before .if1 .taken)
-
--- no record is counted at the start
-none : (c : tie.Start Inv-loop μ-loop) → c .args .start .count ≡ 0
-none c = ap (λ (s : Standing). s .count) (c .pre .0)
-
-replay-chunk-requires : tie.Need-replay-chunk-requires Inv-loop μ-loop
-replay-chunk-requires c κs = (search needs, omega (arith, none (c .before .before .before .before .before .before .before .before)))
+μ-loop shared₀ window₀ input₀ out₀ standing₀ chunks₀ shared window input out standing chunks = mostChunks - chunks
 
 loop-holds : tie.Need-loop-holds Inv-loop μ-loop
 loop-holds c =
-    let start = first c .before .before .before .before .before .before .before .before .before in
-    let turned = first c .replay-chunk .ensures in
-    (refl, refl, refl, refl, search needs, search needs, omega arith, omega (arith, none start, turned .1), first-chunk (start .pre .0) (turned .0))
+    let start = c .before .before .before .before in
+    (refl, refl, refl, refl, start .pre .1 .0, start .pre .1 .1, omega arith, omega (arith, ap (λ (s : Standing). s .count) (start .pre .0)), none-yet (start .pre .0))
 
-replay-chunk-requires-2 : tie.Need-replay-chunk-requires-2 Inv-loop μ-loop
-replay-chunk-requires-2 c κs = search needs
+-- where the loop stood before the chunk
+abbrev stood : tie.After-struct-known Inv-loop μ-loop → tie.At-loop Inv-loop μ-loop
+stood c = c .before .before .before .before .before .before .before .before .before .before .before .before .before .before
+
+abbrev chunk : tie.After-struct-known Inv-loop μ-loop → tie.After-replay-chunk Inv-loop μ-loop
+chunk c = c .before .before .before .before .before .before .before .before .before
+
+returns : tie.Need-returns Inv-loop μ-loop
+returns c =
+    let l = stood (c .before) .loop in
+    record {
+      before = l .chunks;
+      start = standingAs (l .standing) (l .shared) (l .window);
+      reached = l .inv .8;
+      last = chunk (c .before) .replay-chunk .ensures .0;
+      bound = all-read _ _ (c .if1 .taken);
+    }
+
+-- what the chunk left of the memories and the buffers: as long as they were
+abbrev after-shared : tie.After-struct-known Inv-loop μ-loop → tie.After-shared Inv-loop μ-loop
+after-shared c = c .before .before .before .before .before .before .before .before
+
+abbrev after-window : tie.After-struct-known Inv-loop μ-loop → tie.After-window Inv-loop μ-loop
+after-window c = c .before .before .before .before .before .before
+
+abbrev after-input : tie.After-struct-known Inv-loop μ-loop → tie.After-input Inv-loop μ-loop
+after-input c = c .before .before .before .before
+
+abbrev after-out : tie.After-struct-known Inv-loop μ-loop → tie.After-out Inv-loop μ-loop
+after-out c = c .before .before
+
+loop-less : tie.Need-loop-less Inv-loop μ-loop
+loop-less c = omega (arith, stood (c .before .before) .loop .inv .6)
 
 loop-again : tie.Need-loop-again Inv-loop μ-loop
 loop-again c =
-    let turned = next c .replay-chunk2 .ensures in
-    let inside = next c .before .before .before .before .before .before .before in
-    let l = inside .before .loop in
-    (search needs, search needs, search needs, search needs, search needs, search needs, omega (arith, within c), omega (arith, turned .1, l .inv .7), chunk-more (l .inv .4) (inside .loop-test .taken) (l .inv .8) (turned .0))
-
-returns : tie.Need-returns Inv-loop μ-loop
-returns c = record { number = c .before .before .loop .chunks; ran = c .before .before .loop .inv .8; bound = λ m. omega (arith, ltb-false (c .before .before .loop .chunks) mostChunks (c .if1 .left)) }
-
-returns-2 : tie.Need-returns-2 Inv-loop μ-loop
-returns-2 c = record { number = c .before .loop .chunks; ran = c .before .loop .inv .8; bound = λ m. absurd (true≢false (sym m ∙ c .loop-test .left)) }
+    let known = c .before .before in
+    let l = stood known .loop in
+    let turned = chunk known .replay-chunk .ensures in
+    let on = goes-on (chunk known .replay-chunk .result .more) (l .chunks + 1) (c .before .if1 .left) (omega (arith, l .inv .6)) in
+    let input : length (chunk known .replay-chunk .last .1 .1 .1 .0) ≡ chunkBytes = search (needs, after-input known .input .given, l .inv .4) in
+    (search (needs, after-shared known .shared .given, l .inv .0), search (needs, after-window known .window .given, l .inv .1), search (needs, after-input known .input .given, l .inv .2), search (needs, after-out known .out .given, l .inv .3), input, search (needs, after-out known .out .given, l .inv .5), on .1, omega (arith, turned .1, l .inv .7), chunk-more input (on .0) (l .inv .8) (turned .0))
 
 pub replay-input-spec : {M : Type 1} → statement M
 replay-input-spec =
     tie.close
-    (tie.spec Inv-loop μ-loop replay-chunk-requires loop-holds replay-chunk-requires-2 (λ c. search needs) (λ c. omega (arith, within c)) loop-again
-    (λ c. search needs) (λ c. search needs) (λ c. search needs) (λ c. search needs) returns (λ c. search needs) (λ c. search needs)
-    (λ c. search needs) (λ c. search needs) returns-2)
+    (tie.spec Inv-loop μ-loop loop-holds (λ c κs. search needs) (λ c. search needs)
+    (λ c. search (needs, after-shared (c .before) .shared .given, stood (c .before) .loop .inv .0))
+    (λ c. search (needs, after-window (c .before) .window .given, stood (c .before) .loop .inv .1))
+    (λ c. search (needs, after-input (c .before) .input .given, stood (c .before) .loop .inv .2))
+    (λ c. search (needs, after-out (c .before) .out .given, stood (c .before) .loop .inv .3)) returns loop-less loop-again)

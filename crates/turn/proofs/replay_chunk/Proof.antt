@@ -1,4 +1,4 @@
--- `replay_chunk` meets its contract: what is at hand fits the input buffer, so it has at most 3,276 records; what is written is their text.
+-- What is at hand fits the input buffer, so it has at most 3,276 records; what is written is their text.
 use mathlib.Core.Path.{refl}
 use Prim.Native.Nat.{_-_, _≤_}
 use native.Mathlib.Nat.{sub-zero}
@@ -6,9 +6,9 @@ use native.Mathlib.Omega.{arith}
 use lib.ListN.{length, take}
 use lib.Seq.{length-take-le}
 use borrow.Author.Needs.{needs}
-use Rattle.replay.specs.Laws.{turned}
-use Rattle.replay.proofs.replay_chunk.Statement.{statement}
-use Rattle.replay.proofs.replay_chunk.Tie as tie
+use Rattle.turn.specs.Laws.{turned}
+use Rattle.turn.proofs.replay_chunk.Statement.{statement}
+use Rattle.turn.proofs.replay_chunk.Tie as tie
 
 abbrev hand : tie.After-answer-chunk-arg4 → tie.After-at-hand
 hand c = c .before .before .before .before .before
