@@ -35,9 +35,10 @@ const PLACEHOLDERS: [&str; 6] = [
 ];
 
 /// Words of the languages, the tools and the replay's text.
-const WORDS: [&str; 8] = [
+const WORDS: [&str; 9] = [
     "end",
     "ensures",
+    "log",
     "match",
     "rattle-kit-5",
     "requires",

@@ -134,6 +134,15 @@ fn failing_behind(mut command: Command, bytes: &[u8]) -> Ended {
     run(command)
 }
 
+/// A socket whose other end nobody reads and that has no room left: a write fails until somebody does.
+fn stuffed() -> (UnixStream, UnixStream) {
+    let (ours, theirs) = UnixStream::pair().expect("two sockets");
+    theirs.set_nonblocking(true).expect("it does not wait");
+    while (&theirs).write(&[0; 1000]).is_ok() {}
+    while (&theirs).write(&[0]).is_ok() {}
+    (ours, theirs)
+}
+
 /// Replays into a file that may have so many blocks; the line of the shell says what happens there.
 fn limited(line: &str, blocks: usize, trace: &[u8]) -> Ended {
     let folder = Folder::new();
@@ -233,6 +242,25 @@ fn a_lost_last_line_is_told() {
     let blocks = written.len() / BLOCK;
     let ended = limited("trap '' XFSZ; exec \"$0\"", blocks, records(count));
     ended.is(&written, &writing_failed(count), 1);
+}
+
+#[test]
+#[ignore = "runs the built programs: .ci/run calls it behind rt ci"]
+fn nothing_is_read_behind_a_failed_write() {
+    let (_ours, theirs) = stuffed();
+    let mut replay = replay();
+    replay.stdout(OwnedFd::from(theirs));
+    let (mut pipe, ended) = start(replay);
+    pipe.write_all(records(CHUNK))
+        .expect("the first chunk is read");
+    // one record more, unless the program is gone: it is read only where the program goes on
+    let gone = pipe.write_all(records(1)).is_err();
+    while !ended.is_finished() {
+        assert!(gone || bytes_in(&pipe) > 0, "it goes on");
+        thread::yield_now();
+    }
+    let ended = ended.join().expect("the replay ends");
+    ended.is(b"", &writing_failed(0), 1);
 }
 
 #[test]

@@ -1,13 +1,19 @@
 -- What a chunk of the input is, and what of it is answered.
 use mathlib.Core.Path.{_≡_}
-use mathlib.Core.Bool.{true}
+use mathlib.Core.Bool.{Bool, true}
 use mathlib.Core.List.{List}
 use Prim.Native.Nat.{ℕ, _-_, _%_, _<_, _≤_}
 use lib.ListN.{length}
+use lib.IntN.{ℤ, pos}
+use lib.Signed.{ltZ}
 use Rattle.model.specs.Choice.{if_then_else_}
 use Rattle.stream.specs.declared.Chunk.{Chunk}
 
--- The chunk stands at the start of the buffer. A read fails only where the buffer has room left.
+-- an answer below 0: 0 is the end of the input
+abbrev pub negative : ℤ → Bool
+negative got = ltZ got (pos 0)
+
+-- What was read fits the buffer, and a read is made, and may fail, only where there is room left.
 pub record Reads (chunk : Chunk) (buffer : List ℕ) : Type 0 where
   pub fits : chunk .size ≤ length buffer
   pub room : chunk .cut ≡ true → chunk .size < length buffer

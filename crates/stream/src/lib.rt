@@ -3,7 +3,7 @@ ghost use mathlib.Core.Path.{_≡_};
 ghost use Prim.Native.Nat.{_≤_};
 ghost use lib.ListN.{length, take};
 ghost use denote.Ref.{ptr};
-ghost use Rattle.stream.specs.Bridge.{Reads, atHand};
+ghost use Rattle.stream.specs.Bridge.{negative, Reads, atHand};
 
 // What reading a chunk gave: so many bytes at the start of the buffer, and whether a read failed before the input ended or the buffer was full.
 pub struct Chunk {
@@ -25,6 +25,13 @@ impl Chunk {
     }
 }
 
+// POSIX: a call that fails answers a negative number.
+fn failed(got: isize) -> bool
+    ensures { λ r. ⌜ r ≡ negative got ⌝ }
+{
+    got < 0
+}
+
 // Reads until the buffer is full, the input ends or a read fails. A read that a signal interrupts has failed.
 pub fn read_chunk(buffer: &mut [u8]) -> Chunk
     ensures { λ r. ⌜ Reads r (now (buffer .exit)) ⌝ }
@@ -32,7 +39,7 @@ pub fn read_chunk(buffer: &mut [u8]) -> Chunk
     let mut size = 0;
     while size < buffer.len() {
         let got = libc::read(libc::STDIN_FILENO, &mut buffer[size..]);
-        if got < 0 {
+        if failed(got) {
             return Chunk {
                 size: size,
                 cut: true,

@@ -1,12 +1,14 @@
--- What one chunk of the replay promises between the calls of the C library: which text is asked to be written, for the bytes that the buffers hold.
+-- What one chunk of the replay promises between the calls of the C library: which text stands ready to be written, for the bytes that the
+-- buffers hold; and the last lines.
 use mathlib.Core.Path.{_≡_}
-use mathlib.Core.Bool.{not, _&&_}
-use mathlib.Core.List.{List}
-use Prim.Native.Nat.{ℕ}
-use lib.ListN.{take}
+use mathlib.Core.Bool.{Bool, not, _&&_, _||_}
+use mathlib.Core.List.{List, []}
+use Prim.Native.Nat.{ℕ, _≤_}
+use lib.ListN.{length, take}
 use lib.Dec.{eqb}
 use Rattle.model.specs.Choice.{if_then_else_}
-use Rattle.model.specs.Replay.{Standing, replay}
+use Rattle.model.specs.Replay.{Standing, replay, lastText}
+use Rattle.report.specs.Bridge.{failedText}
 use Rattle.standing.specs.Bridge.{standingAs}
 use Rattle.stream.specs.Bridge.{atHand}
 use Rattle.turn.specs.declared.Turn.{Turn}
@@ -19,11 +21,29 @@ chunkBytes = 65520
 abbrev pub bytesOf : Turn → (input : List ℕ) → List ℕ
 bytesOf turn input = take (atHand (turn .chunk)) input
 
--- ONE CHUNK, from where the replay stood: the text that the output buffer holds, and where the replay stands then, are those of its replay.
+-- A CHUNK, from where the replay stood: the text that the output buffer holds, and where the replay stands then, are those of its replay.
 pub record Turned (start : Standing) (turn : Turn) (input out shared window : List ℕ) : Type 0 where
+  pub size : turn .chunk .size ≤ chunkBytes
   pub text : take (turn .end) out ≡ replay start (bytesOf turn input) .text
+  pub end : turn .end ≡ length (replay start (bytesOf turn input) .text)
   pub standing : standingAs (turn .standing) shared window ≡ replay start (bytesOf turn input) .standing
-  -- the records whose lines are written: where the write failed, those before the chunk
-  pub written : turn .written ≡ (if turn .lost then start .count else turn .standing .count)
-  -- more is read exactly where the chunk was full, nothing was refused and nothing failed
+  -- the records to be told of: where the write failed, those before the chunk, whose lines are surely written
+  pub told : turn .told ≡ (if turn .lost then start .count else turn .standing .count)
+  -- more is to be read exactly where the chunk was full, nothing was refused and nothing failed
   pub more : turn .more ≡ (eqb (turn .chunk .size) chunkBytes && not (turn .standing .stopped) && not (turn .chunk .cut) && not (turn .lost))
+
+-- THE LAST LINES
+
+-- A write failed, or the input's end was not reached and no refusal ended the replay: a read failed, or no more chunks may be read.
+abbrev pub brokeOff : Turn → Bool
+brokeOff turn = turn .lost || turn .more || turn .chunk .cut
+
+-- "then `end` and the count of records": never where the replay broke off
+abbrev pub closingText : Turn → List ℕ
+closingText turn = if brokeOff turn then [] else lastText (turn .standing .stopped) (turn .standing .count)
+
+-- what standard error gets: that writing failed, or else that reading did. `unclosed`: the last line could not be written
+abbrev pub faultText : Turn → (unclosed : Bool) → List ℕ
+faultText turn unclosed =
+    let unwritten = turn .lost || unclosed in
+    if unwritten || turn .more || turn .chunk .cut then failedText (not unwritten) (turn .told) else []

@@ -18,28 +18,34 @@ use Rattle.stream.specs.Bridge.{atHand}
 use Rattle.turn.specs.declared.Turn.{Turn}
 use Rattle.turn.specs.Bridge.{chunkBytes, bytesOf, Turned}
 
-pub turned : {start : Standing} (turn : Turn) {size : ℕ} {input before out shared window : List ℕ} → size ≡ atHand (turn .chunk) →
+pub turned : {start : Standing} (turn : Turn) {size : ℕ} {input before out shared window : List ℕ} → turn .chunk .size ≤ chunkBytes → size ≡ atHand (turn .chunk) →
     Played (replay start (take (size - 0) input)) before (turn .end) out (standingAs (turn .standing) shared window) → turn .end ≤ length before →
-    turn .written ≡ (if turn .lost then start .count else turn .standing .count) →
+    turn .told ≡ (if turn .lost then start .count else turn .standing .count) →
     turn .more ≡ (eqb (turn .chunk .size) chunkBytes && not (turn .standing .stopped) && not (turn .chunk .cut) && not (turn .lost)) →
     Turned start turn input out shared window
-turned turn e p h w m =
+turned turn b e p h t m =
     let q = rw (sub-zero, e) at p in
-    record { text = text-there (omega (arith, q .text .place)) (q .text); standing = q .standing; written = w; more = m }
+    record { size = b; text = text-there (omega (arith, q .text .place)) (q .text); end = omega (arith, q .text .place); standing = q .standing; told = t; more = m }
 
 unless : (b : Bool) → not b ≡ true → b ≡ false
 unless false h = refl
 unless true h = sym h
 
-more-is : (full stopped cut lost : Bool) → (full && not stopped && not cut && not lost) ≡ true → (full ≡ true) × (cut ≡ false)
+more-is : (full stopped cut lost : Bool) → (full && not stopped && not cut && not lost) ≡ true → (full ≡ true) × (stopped ≡ false) × (cut ≡ false)
 more-is full stopped cut lost h =
     let read = and-left (full && not stopped && not cut) (not lost) h in
-    (and-left full (not stopped) (and-left (full && not stopped) (not cut) read), unless cut (and-right (full && not stopped) (not cut) read))
+    let going = and-left (full && not stopped) (not cut) read in
+    (and-left full (not stopped) going, unless stopped (and-right full (not stopped) going), unless cut (and-right (full && not stopped) (not cut) read))
 
--- a chunk behind which more is read was full
-pub more-full : {start : Standing} {turn : Turn} {input out shared window : List ℕ} → Turned start turn input out shared window → turn .more ≡ true →
-    length input ≡ chunkBytes → length (bytesOf turn input) ≡ chunkBytes
-more-full {turn} {input} t m h =
-    let is = more-is (eqb (turn .chunk .size) chunkBytes) (turn .standing .stopped) (turn .chunk .cut) (turn .lost) (sym (t .more) ∙ m) in
-    let size = eqb→eq (turn .chunk .size) chunkBytes (rw (is .0) tt) in
-    rw (is .1, size) (length-take-le chunkBytes input (omega arith))
+module _ {start : Standing} {turn : Turn} {input out shared window : List ℕ} (t : Turned start turn input out shared window) (m : turn .more ≡ true) where
+  is : (eqb (turn .chunk .size) chunkBytes ≡ true) × (turn .standing .stopped ≡ false) × (turn .chunk .cut ≡ false)
+  is = more-is (eqb (turn .chunk .size) chunkBytes) (turn .standing .stopped) (turn .chunk .cut) (turn .lost) (sym (t .more) ∙ m)
+
+  -- a chunk behind which more is read was full, and nothing of it was refused
+  pub more-full : length input ≡ chunkBytes → length (bytesOf turn input) ≡ chunkBytes
+  more-full h =
+      let size = eqb→eq (turn .chunk .size) chunkBytes (rw (is .0) tt) in
+      rw (is .2, size) (length-take-le chunkBytes input (omega arith))
+
+  pub more-going : turn .standing .stopped ≡ false
+  more-going = is .1

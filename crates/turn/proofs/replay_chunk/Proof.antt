@@ -16,12 +16,16 @@ hand c = c .before .before .before .before .before
 abbrev answered : tie.After-struct-known3 → tie.After-answer-chunk
 answered c = c .before .before .before .before .before .before .before .before .before .before .before .before .before .before .before
 
+-- what was read fits the buffer
+size : (c : tie.After-answer-chunk-arg4) → hand c .before .before .before .read-chunk .result .size ≤ 65520
+size c =
+    let input = hand c .before .before in
+    omega (arith, input .before .read-chunk .ensures .fits, input .input .given)
+
 bytes : (c : tie.After-answer-chunk-arg4) → length (take (hand c .at-hand .result - 0) (hand c .before .before .before .read-chunk .last .0)) ≤ 65520
 bytes c =
-    let input = hand c .before .before in
-    let read = input .before in
-    rw (sub-zero, length-take-le (hand c .at-hand .result) (read .read-chunk .last .0) (omega (arith, read .read-chunk .ensures .fits, hand c .at-hand .ensures .1)))
-    (omega (arith, read .read-chunk .ensures .fits, hand c .at-hand .ensures .1, input .input .given))
+    let read = hand c .before .before .before .read-chunk in
+    rw (sub-zero, length-take-le (hand c .at-hand .result) (read .last .0) (omega (arith, read .ensures .fits, hand c .at-hand .ensures .1))) (omega (arith, size c, hand c .at-hand .ensures .1))
 
 answer-chunk-requires : tie.Need-answer-chunk-requires
 answer-chunk-requires c κs = (omega (arith, bytes c), omega (arith, bytes c))
@@ -32,7 +36,7 @@ same-length-3 c = search (needs, hand (answered c .before) .before .before .inpu
 returns : tie.Need-returns
 returns c =
     let answer = answered c .answer-chunk .ensures in (
-      turned _ (hand (answered c .before) .at-hand .ensures .0) (answer .0) (answer .1 .0) (c .before .before .before .written .ensures) refl,
+      turned _ (size (answered c .before)) (hand (answered c .before) .at-hand .ensures .0) (answer .0) (answer .1 .0) (c .before .before .before .told .ensures) refl,
       omega (arith, answer .1 .1, bytes (answered c .before)),
     )
 

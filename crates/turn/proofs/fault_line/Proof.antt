@@ -2,8 +2,8 @@
 use mathlib.Core.Path.{refl}
 use native.Mathlib.Omega.{arith}
 use borrow.Author.Needs.{needs}
-use Rattle.replay.proofs.fault_line.Statement.{statement}
-use Rattle.replay.proofs.fault_line.Tie as tie
+use Rattle.turn.proofs.fault_line.Statement.{statement}
+use Rattle.turn.proofs.fault_line.Tie as tie
 
 returns : tie.Need-returns
 returns c =

@@ -2,8 +2,8 @@
 use mathlib.Core.Path.{refl}
 use native.Mathlib.Omega.{arith}
 use borrow.Author.Needs.{needs}
-use Rattle.replay.proofs.last_line.Statement.{statement}
-use Rattle.replay.proofs.last_line.Tie as tie
+use Rattle.turn.proofs.last_line.Statement.{statement}
+use Rattle.turn.proofs.last_line.Tie as tie
 
 returns : tie.Need-returns
 returns c = (rw (c .if1 .taken) (record { place = refl; bytes = refl }), omega arith)
