@@ -45,5 +45,4 @@ closingText turn = if brokeOff turn then [] else lastText (turn .standing .stopp
 -- what standard error gets: that writing failed, or else that reading did. `unclosed`: the last line could not be written
 abbrev pub faultText : Turn → (unclosed : Bool) → List ℕ
 faultText turn unclosed =
-    let unwritten = turn .lost || unclosed in
-    if unwritten || turn .more || turn .chunk .cut then failedText (not unwritten) (turn .told) else []
+    if brokeOff turn || unclosed then failedText (not (turn .lost || unclosed)) (turn .told) else []

@@ -108,7 +108,7 @@ pub fn fault_line(turn: Turn, unclosed: bool, out: &mut [u8]) -> usize
     ensures { λ r. ⌜ r ≤ 50 ⌝ }
 {
     let unwritten = turn.lost | unclosed;
-    if unwritten | turn.more | turn.chunk.cut {
+    if turn.lost | turn.more | turn.chunk.cut | unclosed {
         return report::write_failed(out, 0, !unwritten, turn.told);
     }
     0
