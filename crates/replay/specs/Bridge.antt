@@ -10,7 +10,8 @@ use Rattle.model.specs.TestLaws.{All}
 use Rattle.model.specs.Replay.{Standing, replayStart}
 use Rattle.model.specs.ReplayLaws.{replayChunks}
 use Rattle.turn.specs.declared.Turn.{Turn}
-use Rattle.turn.specs.Bridge.{chunkBytes, Turned, closingText, faultText}
+use Rattle.stream.specs.Bridge.{chunkBytes}
+use Rattle.turn.specs.Bridge.{Turned, closingText, faultText}
 
 -- every loop must have an end: no more chunks are read
 abbrev pub mostChunks : ℕ

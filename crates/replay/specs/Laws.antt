@@ -12,8 +12,9 @@ use Rattle.model.specs.TestLaws.{All, no-both, or-left, or-right}
 use Rattle.model.specs.Replay.{Standing, replayStart, replayText, lastText}
 use Rattle.model.specs.ReplayLaws.{replayChunks, chunks-more, WholeRecords, chunked-text}
 use Rattle.standing.specs.Bridge.{standingAs}
+use Rattle.stream.specs.Bridge.{chunkBytes, brokeOff}
 use Rattle.turn.specs.declared.Turn.{Turn}
-use Rattle.turn.specs.Bridge.{chunkBytes, bytesOf, Turned, brokeOff, closingText}
+use Rattle.turn.specs.Bridge.{bytesOf, Turned, closingText}
 use Rattle.turn.specs.Laws.{more-full, more-going}
 use Rattle.replay.specs.Bridge.{mostChunks, Reached, Ended}
 
@@ -79,12 +80,12 @@ module _ {turn : Turn} {input out shared window : List ℕ} (e : Ended turn inpu
   chunksOf = e .reached .chunks ++ (bytesOf turn input ∷ [])
 
   -- The text of the chunks before the last, by definition, that of the last in the buffer and the last line are the text of the whole trace.
-  pub text-whole : brokeOff turn ≡ false → (replayChunks replayStart (e .reached .chunks) .text ++ take (turn .end) out) ++ closingText turn ≡ replayText (flatten chunksOf)
+  pub text-whole : brokeOff (turn .chunk) (turn .lost) (turn .more) ≡ false → (replayChunks replayStart (e .reached .chunks) .text ++ take (turn .end) out) ++ closingText turn ≡ replayText (flatten chunksOf)
   text-whole h =
       let whole = chunked-text chunksOf (full-whole (e .reached .chunks) (bytesOf turn input) (e .reached .full)) in
       rw (h, e .last .text, ap (λ (s : Standing). lastText (s .stopped) (s .count)) (e .last .standing), e .reached .standing)
       (rw (chunks-more replayStart (e .reached .chunks) (bytesOf turn input)) at whole)
 
   -- It was the end of the input that ended it, or a refusal: the last chunk is short, or the reader refused a record of it.
-  pub end-reached : brokeOff turn ≡ false → (turn .chunk .size < chunkBytes) ⊎ (turn .standing .stopped ≡ true)
+  pub end-reached : brokeOff (turn .chunk) (turn .lost) (turn .more) ≡ false → (turn .chunk .size < chunkBytes) ⊎ (turn .standing .stopped ≡ true)
   end-reached h = short (turn .chunk .size) (e .last .size) (why (eqb (turn .chunk .size) chunkBytes) (turn .standing .stopped) (turn .chunk .cut) (turn .lost) (turn .more) (e .last .more) h)

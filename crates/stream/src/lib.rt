@@ -3,7 +3,11 @@ ghost use mathlib.Core.Path.{_≡_};
 ghost use Prim.Native.Nat.{_≤_};
 ghost use lib.ListN.{length, take};
 ghost use denote.Ref.{ptr};
-ghost use Rattle.stream.specs.Bridge.{negative, Reads, atHand};
+ghost use Rattle.model.specs.Choice.{if_then_else_};
+ghost use Rattle.stream.specs.Bridge.{negative, Reads, atHand, goesOn, brokeOff};
+
+// A full chunk: 3,276 records of 20 bytes.
+const CHUNK: usize = 65520;
 
 // What reading a chunk gave: so many bytes at the start of the buffer, and whether a read failed before the input ended or the buffer was full.
 pub struct Chunk {
@@ -23,6 +27,27 @@ impl Chunk {
             self.size
         }
     }
+
+    // Whether more is to be read. `stopped`: a record was refused; `lost`: a write failed.
+    pub fn goes_on(self, stopped: bool, lost: bool) -> bool
+        ensures { λ r. ⌜ r ≡ goesOn self stopped lost ⌝ }
+    {
+        (self.size == CHUNK) & !stopped & !self.cut & !lost
+    }
+
+    // Whether the last chunk is where a replay broke off. `more`: more was to be read, but no more may be.
+    pub fn broke_off(self, lost: bool, more: bool) -> bool
+        ensures { λ r. ⌜ r ≡ brokeOff self lost more ⌝ }
+    {
+        lost | more | self.cut
+    }
+}
+
+// The records to be told of where something failed: where it was a write, the lines of its chunk may be missing.
+pub fn records_told(lost: bool, before: u64, after: u64) -> u64
+    ensures { λ r. ⌜ r ≡ (if lost then before else after) ⌝ }
+{
+    if lost { before } else { after }
 }
 
 // POSIX: a call that fails answers a negative number.

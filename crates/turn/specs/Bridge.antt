@@ -1,21 +1,16 @@
 -- What one chunk of the replay promises between the calls of the C library: which text stands ready to be written, for the bytes that the
 -- buffers hold; and the last lines.
 use mathlib.Core.Path.{_≡_}
-use mathlib.Core.Bool.{Bool, not, _&&_, _||_}
+use mathlib.Core.Bool.{Bool, not, _||_}
 use mathlib.Core.List.{List, []}
 use Prim.Native.Nat.{ℕ, _≤_}
 use lib.ListN.{length, take}
-use lib.Dec.{eqb}
 use Rattle.model.specs.Choice.{if_then_else_}
 use Rattle.model.specs.Replay.{Standing, replay, lastText}
 use Rattle.report.specs.Bridge.{failedText}
 use Rattle.standing.specs.Bridge.{standingAs}
-use Rattle.stream.specs.Bridge.{atHand}
+use Rattle.stream.specs.Bridge.{atHand, chunkBytes, goesOn, brokeOff}
 use Rattle.turn.specs.declared.Turn.{Turn}
-
--- the bytes of a full chunk: 3,276 records
-abbrev pub chunkBytes : ℕ
-chunkBytes = 65520
 
 -- the bytes that a turn has answered: those at hand of what its input buffer holds
 abbrev pub bytesOf : Turn → (input : List ℕ) → List ℕ
@@ -29,20 +24,16 @@ pub record Turned (start : Standing) (turn : Turn) (input out shared window : Li
   pub standing : standingAs (turn .standing) shared window ≡ replay start (bytesOf turn input) .standing
   -- the records to be told of: where the write failed, those before the chunk, whose lines are surely written
   pub told : turn .told ≡ (if turn .lost then start .count else turn .standing .count)
-  -- more is to be read exactly where the chunk was full, nothing was refused and nothing failed
-  pub more : turn .more ≡ (eqb (turn .chunk .size) chunkBytes && not (turn .standing .stopped) && not (turn .chunk .cut) && not (turn .lost))
+  pub more : turn .more ≡ goesOn (turn .chunk) (turn .standing .stopped) (turn .lost)
 
 -- THE LAST LINES
 
--- A write failed, or the input's end was not reached and no refusal ended the replay: a read failed, or no more chunks may be read.
-abbrev pub brokeOff : Turn → Bool
-brokeOff turn = turn .lost || turn .more || turn .chunk .cut
-
 -- "then `end` and the count of records": never where the replay broke off
 abbrev pub closingText : Turn → List ℕ
-closingText turn = if brokeOff turn then [] else lastText (turn .standing .stopped) (turn .standing .count)
+closingText turn = if brokeOff (turn .chunk) (turn .lost) (turn .more) then [] else lastText (turn .standing .stopped) (turn .standing .count)
 
 -- what standard error gets: that writing failed, or else that reading did. `unclosed`: the last line could not be written
 abbrev pub faultText : Turn → (unclosed : Bool) → List ℕ
 faultText turn unclosed =
-    if brokeOff turn || unclosed then failedText (not (turn .lost || unclosed)) (turn .told) else []
+    let lost = turn .lost || unclosed in
+    if brokeOff (turn .chunk) lost (turn .more) then failedText (not lost) (turn .told) else []

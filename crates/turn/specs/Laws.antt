@@ -14,14 +14,14 @@ use Rattle.model.specs.Replay.{Standing, replay}
 use Rattle.report.specs.Laws.{text-there}
 use Rattle.standing.specs.Bridge.{standingAs}
 use Rattle.player.specs.Bridge.{Played}
-use Rattle.stream.specs.Bridge.{atHand}
+use Rattle.stream.specs.Bridge.{atHand, chunkBytes, goesOn}
 use Rattle.turn.specs.declared.Turn.{Turn}
-use Rattle.turn.specs.Bridge.{chunkBytes, bytesOf, Turned}
+use Rattle.turn.specs.Bridge.{bytesOf, Turned}
 
 pub turned : {start : Standing} (turn : Turn) {size : ℕ} {input before out shared window : List ℕ} → turn .chunk .size ≤ chunkBytes → size ≡ atHand (turn .chunk) →
     Played (replay start (take (size - 0) input)) before (turn .end) out (standingAs (turn .standing) shared window) → turn .end ≤ length before →
     turn .told ≡ (if turn .lost then start .count else turn .standing .count) →
-    turn .more ≡ (eqb (turn .chunk .size) chunkBytes && not (turn .standing .stopped) && not (turn .chunk .cut) && not (turn .lost)) →
+    turn .more ≡ goesOn (turn .chunk) (turn .standing .stopped) (turn .lost) →
     Turned start turn input out shared window
 turned turn b e p h t m =
     let q = rw (sub-zero, e) at p in

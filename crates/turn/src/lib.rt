@@ -3,15 +3,11 @@ ghost use mathlib.Core.Path.{_≡_};
 ghost use mathlib.Core.Bool.{true};
 ghost use Prim.Native.Nat.{_+_, _<_, _≤_, _^_};
 ghost use lib.ListN.{length};
-ghost use Rattle.model.specs.Choice.{if_then_else_};
 ghost use Rattle.report.specs.Bridge.{Written};
 ghost use Rattle.standing.specs.Bridge.{standingAs};
 ghost use Rattle.turn.specs.Bridge.{Turned, closingText, faultText};
 use standing::Standing;
 use stream::Chunk;
-
-// A chunk is 3,276 records of 20 bytes.
-const CHUNK: usize = 65520;
 
 // How a chunk went: what was read of it, where its text ends in the output buffer, where the replay stands then, whether the text was lost in a
 // write that failed, the records to be told of where something failed, and whether more is to be read. Its fields are private: a turn comes from
@@ -51,13 +47,6 @@ impl Turn {
     }
 }
 
-// Where a write failed, the lines of its chunk may be missing.
-fn told(lost: bool, before: u64, after: u64) -> u64
-    ensures { λ r. ⌜ r ≡ (if lost then before else after) ⌝ }
-{
-    if lost { before } else { after }
-}
-
 // Reads a chunk, answers its records and writes their text. None is read behind a turn that does not go on.
 pub fn replay_chunk(
     last: Turn,
@@ -79,13 +68,15 @@ pub fn replay_chunk(
     let end = replayed.end;
     let lost = !io::write_all(1, stream::text(&out[0..], end));
     let standing = replayed.standing;
+    let told = stream::records_told(lost, start.count, standing.count);
+    let more = chunk.goes_on(standing.stopped, lost);
     Turn {
         chunk: chunk,
         end: end,
         standing: standing,
         lost: lost,
-        told: told(lost, start.count, standing.count),
-        more: (chunk.size == CHUNK) & !standing.stopped & !chunk.cut & !lost,
+        told: told,
+        more: more,
     }
 }
 
@@ -95,7 +86,8 @@ pub fn last_line(turn: Turn, out: &mut [u8]) -> usize
     ensures { λ r. ⌜ Written (now (out .entry)) 0 (closingText turn) r (now (out .exit)) ⌝ }
     ensures { λ r. ⌜ r ≤ 25 ⌝ }
 {
-    if turn.lost | turn.more | turn.chunk.cut {
+    let chunk = turn.chunk;
+    if chunk.broke_off(turn.lost, turn.more) {
         return 0;
     }
     player::last_line(turn.standing.stopped, turn.standing.count, out)
@@ -107,9 +99,9 @@ pub fn fault_line(turn: Turn, unclosed: bool, out: &mut [u8]) -> usize
     ensures { λ r. ⌜ Written (now (out .entry)) 0 (faultText turn unclosed) r (now (out .exit)) ⌝ }
     ensures { λ r. ⌜ r ≤ 50 ⌝ }
 {
-    let unwritten = turn.lost | unclosed;
-    if turn.lost | turn.more | turn.chunk.cut | unclosed {
-        return report::write_failed(out, 0, !unwritten, turn.told);
+    let chunk = turn.chunk;
+    if chunk.broke_off(turn.lost | unclosed, turn.more) {
+        return report::write_failed(out, 0, !(turn.lost | unclosed), turn.told);
     }
     0
 }

@@ -8,7 +8,7 @@ use borrow.Author.Needs.{needs}
 use Rattle.model.specs.Replay.{Standing}
 use Rattle.standing.specs.declared.Standing as code
 use Rattle.standing.specs.Bridge.{standingAs}
-use Rattle.turn.specs.Bridge.{chunkBytes}
+use Rattle.stream.specs.Bridge.{chunkBytes}
 use Rattle.replay.specs.Bridge.{mostChunks, Reached}
 use Rattle.replay.specs.Laws.{none-yet, chunk-more, all-read, goes-on}
 use Rattle.replay.proofs.replay_input.Statement.{statement}

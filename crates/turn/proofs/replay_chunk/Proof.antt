@@ -1,5 +1,4 @@
 -- What is at hand fits the input buffer, so it has at most 3,276 records; what is written is their text.
-use mathlib.Core.Path.{refl}
 use Prim.Native.Nat.{_-_, _≤_}
 use native.Mathlib.Nat.{sub-zero}
 use native.Mathlib.Omega.{arith}
@@ -13,8 +12,8 @@ use Rattle.turn.proofs.replay_chunk.Tie as tie
 abbrev hand : tie.After-answer-chunk-arg4 → tie.After-at-hand
 hand c = c .before .before .before .before .before
 
-abbrev answered : tie.After-struct-known3 → tie.After-answer-chunk
-answered c = c .before .before .before .before .before .before .before .before .before .before .before .before .before .before .before
+abbrev answered : tie.After-goes-on → tie.After-answer-chunk
+answered c = c .before .before .before .before .before .before .before .before .before .before .before .before .before
 
 -- what was read fits the buffer
 size : (c : tie.After-answer-chunk-arg4) → hand c .before .before .before .read-chunk .result .size ≤ 65520
@@ -36,7 +35,7 @@ same-length-3 c = search (needs, hand (answered c .before) .before .before .inpu
 returns : tie.Need-returns
 returns c =
     let answer = answered c .answer-chunk .ensures in (
-      turned _ (size (answered c .before)) (hand (answered c .before) .at-hand .ensures .0) (answer .0) (answer .1 .0) (c .before .before .before .told .ensures) refl,
+      turned _ (size (answered c .before)) (hand (answered c .before) .at-hand .ensures .0) (answer .0) (answer .1 .0) (c .before .records-told .ensures) (c .goes-on .ensures),
       omega (arith, answer .1 .1, bytes (answered c .before)),
     )
 
@@ -45,4 +44,4 @@ replay-chunk-spec =
     tie.close
     (tie.spec (λ c κs. search needs) (λ c κs. search needs) (λ c. search needs) (λ c. search needs) (λ c. search needs)
     answer-chunk-requires (λ c. search needs) (λ c. search needs) (λ c. search needs) (λ c κs. search needs) (λ c κs. search needs)
-    (λ c κs. search needs) (λ c. search needs) (λ c. search needs) same-length-3 (λ c. search needs) returns)
+    (λ c κs. search needs) (λ c κs. search needs) (λ c. search needs) (λ c. search needs) same-length-3 (λ c. search needs) returns)
