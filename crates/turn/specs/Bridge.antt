@@ -1,16 +1,21 @@
 -- What one chunk of the replay promises between the calls of the C library: which text stands ready to be written, for the bytes that the
 -- buffers hold; and the last lines.
 use mathlib.Core.Path.{_≡_}
-use mathlib.Core.Bool.{Bool, not, _||_}
+use mathlib.Core.Bool.{Bool, true, false, not, _||_}
 use mathlib.Core.List.{List, []}
 use Prim.Native.Nat.{ℕ, _≤_}
 use lib.ListN.{length, take}
 use Rattle.model.specs.Choice.{if_then_else_}
 use Rattle.model.specs.Replay.{Standing, replay, lastText}
 use Rattle.report.specs.Bridge.{failedText}
+use Rattle.standing.specs.declared.Standing as code
 use Rattle.standing.specs.Bridge.{standingAs}
 use Rattle.stream.specs.Bridge.{atHand, chunkBytes, goesOn, brokeOff}
 use Rattle.turn.specs.declared.Turn.{Turn}
+
+-- before the first chunk: nothing is read, nothing failed, and more is to be read
+abbrev pub firstTurn : code.Standing → Turn
+firstTurn start = record { chunk = record { size = 0; cut = false }; end = 0; standing = start; lost = false; told = 0; more = true }
 
 -- the bytes that a turn has answered: those at hand of what its input buffer holds
 abbrev pub bytesOf : Turn → (input : List ℕ) → List ℕ

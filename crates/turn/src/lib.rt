@@ -5,7 +5,7 @@ ghost use Prim.Native.Nat.{_+_, _<_, _≤_, _^_};
 ghost use lib.ListN.{length};
 ghost use Rattle.report.specs.Bridge.{Written};
 ghost use Rattle.standing.specs.Bridge.{standingAs};
-ghost use Rattle.turn.specs.Bridge.{Turned, closingText, faultText};
+ghost use Rattle.turn.specs.Bridge.{firstTurn, Turned, closingText, faultText};
 use standing::Standing;
 use stream::Chunk;
 
@@ -24,7 +24,7 @@ pub struct Turn {
 impl Turn {
     // Before the first chunk.
     pub fn first(start: Standing) -> Turn
-        ensures { λ r. ⌜ (r .standing ≡ start) × (r .more ≡ true) ⌝ }
+        ensures { λ r. ⌜ r ≡ firstTurn start ⌝ }
     {
         let none = Chunk {
             size: 0,

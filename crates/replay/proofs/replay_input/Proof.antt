@@ -6,9 +6,9 @@ use native.Mathlib.Omega.{arith}
 use lib.ListN.{length}
 use borrow.Author.Needs.{needs}
 use Rattle.model.specs.Replay.{Standing}
-use Rattle.standing.specs.declared.Standing as code
 use Rattle.standing.specs.Bridge.{standingAs}
 use Rattle.stream.specs.Bridge.{chunkBytes}
+use Rattle.turn.specs.declared.Turn.{Turn}
 use Rattle.replay.specs.Bridge.{mostChunks, Reached}
 use Rattle.replay.specs.Laws.{none-yet, chunk-more, all-read, goes-on}
 use Rattle.replay.proofs.replay_input.Statement.{statement}
@@ -34,8 +34,8 @@ loop-holds : tie.Need-loop-holds Inv-loop μ-loop
 loop-holds c =
     let start = c .before .before .before .before .before in
     let first = c .first .ensures in
-    let now = ap (λ (s : code.Standing). standingAs s (start .args .shared .now) (start .args .window .now)) (first .0) ∙ start .pre .0 in
-    (refl, refl, refl, refl, start .pre .1 .0, start .pre .1 .1, omega arith, omega (arith, ap (λ (s : Standing). s .count) now), none-yet now, first .1)
+    let now = ap (λ (t : Turn). standingAs (t .standing) (start .args .shared .now) (start .args .window .now)) first ∙ start .pre .0 in
+    (refl, refl, refl, refl, start .pre .1 .0, start .pre .1 .1, omega arith, omega (arith, ap (λ (s : Standing). s .count) now), none-yet now, ap (λ (t : Turn). t .more) first)
 
 replay-chunk-requires : tie.Need-replay-chunk-requires Inv-loop μ-loop
 replay-chunk-requires c κs =
