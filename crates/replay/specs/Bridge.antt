@@ -33,7 +33,7 @@ pub record Ended (turn : Turn) (input out shared window : List ℕ) : Type 0 whe
   pub last : Turned start turn input out shared window
   pub bound : turn .more ≡ true → before + 1 ≡ mostChunks
 
--- What is stored to be written at the end, one behind the other: the last line, and what standard error gets.
+-- What is stored to be written at the end, each at the buffer's start: first the last line, then what standard error gets.
 pub record Closed (turn : Turn) (before after : List ℕ) : Type 0 where
   pub unclosed : Bool
   pub stored : after ≡ sets (sets before 0 (closingText turn)) 0 (faultText turn unclosed)
