@@ -13,11 +13,12 @@
 //! Spans with a space, numbers and signs are no citations, nor is what stands in a quotation. The
 //! tables of the map name every crate, and the promises cite every edit.
 
+mod files;
+
+use files::{entries, stem, text, ROOT};
 use std::collections::{BTreeMap, BTreeSet};
-use std::fs;
 use std::path::{Path, PathBuf};
 
-const ROOT: &str = concat!(env!("CARGO_MANIFEST_DIR"), "/..");
 const MAP: &str = "docs/ARCHITECTURE.md";
 const PROMISES: &str = "docs/PROMISES.md";
 /// It tells of the past, of names that are gone too.
@@ -34,9 +35,10 @@ const PLACEHOLDERS: [&str; 6] = [
 ];
 
 /// Words of the languages, the tools and the replay's text.
-const WORDS: [&str; 8] = [
+const WORDS: [&str; 9] = [
     "end",
     "ensures",
+    "log",
     "match",
     "rattle-kit-5",
     "requires",
@@ -124,23 +126,6 @@ impl Repository {
             || self.is_file(name)
             || self.is_part_of_a_crate(name)
     }
-}
-
-/// The files and folders in a folder; none where there is no such folder.
-fn entries(folder: &Path) -> Vec<PathBuf> {
-    let entries = fs::read_dir(folder).into_iter().flatten().flatten();
-    let mut paths: Vec<PathBuf> = entries.map(|entry| entry.path()).collect();
-    paths.sort();
-    paths
-}
-
-fn stem(path: &Path) -> String {
-    let stem = path.file_stem().unwrap_or_default();
-    stem.to_string_lossy().into_owned()
-}
-
-fn text(path: &Path) -> String {
-    fs::read_to_string(path).unwrap_or_else(|error| panic!("{}: {error}", path.display()))
 }
 
 /// Definitions, theorems, records, fields, data and constructors: `names : type`, at any depth.

@@ -3,10 +3,26 @@ ghost use mathlib.Core.Path.{_≡_};
 ghost use Rattle.bays.specs.Bridge.{labelAt};
 
 // "Byte 0 is a bay index, 0 to 23."
-pub struct BayIndex(pub u8);
+pub struct BayIndex(u8);
 
-// The label on a bay, 1 to 24, or 0 for none.
-pub struct BayLabel(pub u8);
+impl BayIndex {
+    pub fn of_byte(byte: u8) -> BayIndex
+        ensures { λ r. ⌜ r .0 ≡ byte ⌝ }
+    {
+        BayIndex(byte)
+    }
+}
+
+// The label on a bay, 1 to 24, or 0 for none. Only `label` makes one.
+pub struct BayLabel(u8);
+
+impl BayLabel {
+    pub fn number(self) -> u8
+        ensures { λ r. ⌜ r ≡ self .0 ⌝ }
+    {
+        self.0
+    }
+}
 
 const LAST_BAY: u8 = 23;
 

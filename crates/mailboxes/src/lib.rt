@@ -69,8 +69,8 @@ impl Mailboxes {
         }
         if self.lhwritten {
             let index = self.lhdata % 256;
-            let label = bays::label(BayIndex(index as u8));
-            return label.0 as u32;
+            let label = bays::label(BayIndex::of_byte(index as u8));
+            return label.number() as u32;
         }
         0
     }

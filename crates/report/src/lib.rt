@@ -1,11 +1,11 @@
-// The text of the replay: each function stores its text in a lent buffer from a place on, and gives the place after it.
+// The text of the replay, and the line for standard error: each function stores its text in a lent buffer from a place on, and gives the place after it.
 ghost use mathlib.Core.Path.{_≡_};
 ghost use Prim.Native.Nat.{_+_, _<_, _≤_};
 ghost use lib.ListN.{length};
 ghost use mathlib.Core.List.{[], _∷_};
 ghost use Rattle.model.specs.Text.{decimalText, fieldText, lineText, endText, logText};
 ghost use Rattle.model.specs.TextLaws.{twoDigits};
-ghost use Rattle.report.specs.Bridge.{Written};
+ghost use Rattle.report.specs.Bridge.{Written, callText, failedText};
 
 fn write_byte(out: &mut [u8], at: usize, b: u8) -> usize
     requires { ⌜ at < length (now out) ⌝ }
@@ -113,4 +113,28 @@ pub fn write_end(out: &mut [u8], at: usize, n: u64) -> usize
 {
     let p1 = write_word(out, at, b"end ");
     write_field(out, p1, n, b'\n')
+}
+
+fn write_call(out: &mut [u8], at: usize, reading: bool) -> usize
+    requires { ⌜ at + 7 ≤ length (now out) ⌝ }
+    ensures { λ p. ⌜ Written (now (out .entry)) at (callText reading) p (now (out .exit)) ⌝ }
+    ensures { λ p. ⌜ p ≡ at + 7 ⌝ }
+{
+    if reading {
+        write_word(out, at, b"reading")
+    } else {
+        write_word(out, at, b"writing")
+    }
+}
+
+// Which of the two calls failed, and after how many records: at most 20 digits.
+pub fn write_failed(out: &mut [u8], at: usize, reading: bool, n: u64) -> usize
+    requires { ⌜ at + 50 ≤ length (now out) ⌝ }
+    ensures { λ p. ⌜ Written (now (out .entry)) at (failedText reading n) p (now (out .exit)) ⌝ }
+    ensures { λ p. ⌜ p ≤ at + 50 ⌝ }
+{
+    let p1 = write_call(out, at, reading);
+    let p2 = write_word(out, p1, b" failed after ");
+    let p3 = write_field(out, p2, n, b' ');
+    write_word(out, p3, b"records\n")
 }

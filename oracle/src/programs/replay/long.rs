@@ -13,7 +13,7 @@ use crate::transfer::SHARED_LENGTH;
 
 const SEED: u64 = 500;
 /// The records of the stored trace.
-pub const STORED_RECORDS: usize = 80_000;
+pub const STORED_RECORDS: usize = 82_000;
 /// The fewest records: their numbers start again at 0.
 pub const FEWEST_RECORDS: usize = 70_000;
 /// No round has more accesses: a script may step the largest transfer to its end.
