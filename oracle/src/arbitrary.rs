@@ -1,4 +1,5 @@
-//! Random records, sound ones and ones of which any part may be unsound; and random accesses.
+//! Random records, sound ones and ones of which any part may be unsound; random accesses; and
+//! random changes of a list or a trace.
 
 use std::collections::VecDeque;
 
@@ -46,6 +47,40 @@ pub fn access(rng: &mut Rng) -> Access {
         a: rng.word(),
         b: rng.word(),
         c: rng.word(),
+    }
+}
+
+/// An access whose numbers have any number of digits; half of them are 0, as in a capture.
+pub fn varied_access(rng: &mut Rng) -> Access {
+    let [kind, side, s] = [(); 3].map(|()| varied_number(rng, 8) as u8);
+    let [a, b, c] = [(); 3].map(|()| varied_number(rng, 32));
+    Access::new(kind, side, s, a, b, c)
+}
+
+/// 0, or a number of at most so many bits, of which each count is as likely.
+fn varied_number(rng: &mut Rng, bits: u32) -> u32 {
+    let lost = 32 - bits + rng.below(bits);
+    let number = rng.word() >> lost;
+    rng.pick(&[0, number])
+}
+
+/// One change: another byte, a bit, a byte more, a byte less, two that change places, or the end
+/// that is lost.
+pub fn change(rng: &mut Rng, bytes: &mut Vec<u8>) {
+    let any = rng.byte();
+    let byte = rng.pick(&[b'0', b'1', b'9', b' ', b'\n', b'\r', b'-', 0, any]);
+    let at = rng.below(bytes.len() as u32 + 1) as usize;
+    if at == bytes.len() {
+        bytes.push(byte);
+        return;
+    }
+    match rng.below(6) {
+        0 => bytes[at] = byte,
+        1 => bytes[at] ^= 1 << rng.below(8),
+        2 => bytes.insert(at, byte),
+        3 => drop(bytes.remove(at)),
+        4 => bytes.swap(at, at.saturating_sub(1)),
+        _ => bytes.truncate(at),
     }
 }
 

@@ -1,13 +1,16 @@
-//! An independent model of the PCI dual-port memory card, written from document 01 alone.
-//! Its answers are compared with those of the proved definitions and programs.
+//! An independent model of the PCI dual-port memory card, written from document 01 and the requests
+//! of document 02 alone. Its answers are compared with those of the proved definitions and programs.
 
 pub mod access;
 pub mod arbitrary;
 pub mod card;
+pub mod convert;
 mod decimal;
 mod drive;
 pub mod dword;
+mod input;
 pub mod interrupts;
+pub mod list;
 pub mod pins;
 mod programs;
 pub mod refusal;
@@ -22,4 +25,4 @@ pub mod transfer;
 mod vectors;
 pub mod world;
 
-pub use programs::{long_trace, FEWEST_RECORDS};
+pub use programs::{long_list, long_trace, FEWEST_RECORDS};

@@ -1,14 +1,17 @@
 //! Writes the files that are compared with, checks that the stored ones are what it would write,
-//! replays a trace, or writes one.
+//! replays a trace, turns a text list into a trace or back, or writes a trace or a list.
 
 use std::io::{self, Write};
 use std::path::Path;
 use std::process::ExitCode;
 
-use oracle::{long_trace, replay, stored, FEWEST_RECORDS};
+use oracle::{convert, long_list, long_trace, replay, stored, FEWEST_RECORDS};
 
 /// Where the crates stand, seen from this one.
 const CRATES: &str = concat!(env!("CARGO_MANIFEST_DIR"), "/../crates");
+
+const USAGE: &str = "usage: oracle write | check | replay < trace | to-trace < list \
+                     | to-text < trace | trace RECORDS | list RECORDS";
 
 fn main() -> ExitCode {
     let words: Vec<String> = std::env::args().skip(1).collect();
@@ -24,28 +27,33 @@ fn main() -> ExitCode {
 
 fn run(words: &[&str]) -> Result<(), String> {
     let crates = Path::new(CRATES);
+    let (input, mut output) = (io::stdin().lock(), io::stdout().lock());
     let text = |error: io::Error| error.to_string();
     match words {
         ["write"] => println!("{}", stored::write(crates).map_err(text)?),
         ["check"] => println!("{}", stored::check(crates)?),
-        ["replay"] => replay::replay(io::stdin().lock(), io::stdout().lock()).map_err(text)?,
+        ["replay"] => replay::replay(input, output).map_err(text)?,
+        ["to-trace"] => drop(convert::to_trace(input, output).map_err(text)?),
+        ["to-text"] => drop(convert::to_text(input, output).map_err(text)?),
         ["trace", records] => {
             let trace = long_trace(number(records)?);
-            io::stdout().write_all(&trace).map_err(text)?;
+            output.write_all(&trace).map_err(text)?;
         }
-        _ => {
-            return Err("usage: oracle write | check | replay < trace | trace RECORDS".to_string())
+        ["list", records] => {
+            let list = long_list(number(records)?);
+            output.write_all(&list).map_err(text)?;
         }
+        _ => return Err(USAGE.to_string()),
     }
     Ok(())
 }
 
-/// How many records a trace is to have.
+/// How many records a trace is to have, or a list lines.
 fn number(records: &str) -> Result<usize, String> {
     match records.parse() {
         Ok(number) if number >= FEWEST_RECORDS => Ok(number),
         _ => Err(format!(
-            "trace: {records}: not a number of records, at least {FEWEST_RECORDS}"
+            "{records}: not a number of records, at least {FEWEST_RECORDS}"
         )),
     }
 }

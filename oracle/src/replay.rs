@@ -1,15 +1,14 @@
 //! "The replay program reads a trace from standard input, on zeroed memories."
 
-use std::io::{self, BufRead, BufReader, BufWriter, Read, Write};
+use std::io::{self, BufWriter, Read, Write};
 
 use crate::access::{kind, Access, Answer};
 use crate::card::fresh;
+use crate::decimal;
+use crate::input::{Input, BUFFER};
 use crate::settings::Settings;
 use crate::trace::{self, RECORD_LENGTH};
 use crate::world::World;
-
-/// The bytes that are read and written at a time.
-const BUFFER: usize = 1 << 16;
 
 /// Room for the digits of a number; one of 32 bits has at most ten.
 const DIGITS: usize = 20;
@@ -31,22 +30,22 @@ pub fn bench() -> World {
 /// `end` and the count of records. A reader refusal writes `log R at N` instead, N the records
 /// answered, and stops." The count does not wrap; the record number does.
 pub fn replay(input: impl Read, output: impl Write) -> io::Result<()> {
-    let mut input = BufReader::with_capacity(BUFFER, input);
+    let mut input = Input::new(input);
     let mut output = BufWriter::with_capacity(BUFFER, output);
     let mut bench = bench();
     let mut number = 0;
     let mut count: u64 = 0;
-    let mut record = [0; RECORD_LENGTH];
     loop {
-        let filled = fill(&mut input, &mut record)?;
-        if filled == 0 {
+        let ahead = input.ahead(RECORD_LENGTH)?;
+        if ahead.is_empty() {
             writeln!(output, "end {count}")?;
             break;
         }
-        match trace::read(&record[..filled], number) {
+        match trace::read(ahead, number) {
             Ok(access) => {
                 let answer = bench.access(access);
                 write_line(&mut output, number, &answer)?;
+                input.take(RECORD_LENGTH);
             }
             Err(refusal) => {
                 writeln!(output, "log {refusal} at {count}")?;
@@ -65,18 +64,6 @@ pub fn text(trace: &[u8]) -> Vec<u8> {
     text
 }
 
-/// Reads until the record is full or the input ends, and gives how much is filled.
-fn fill(input: &mut impl BufRead, record: &mut [u8; RECORD_LENGTH]) -> io::Result<usize> {
-    let mut filled = 0;
-    while filled < RECORD_LENGTH {
-        match input.read(&mut record[filled..])? {
-            0 => break,
-            more => filled += more,
-        }
-    }
-    Ok(filled)
-}
-
 fn write_line(output: &mut impl Write, number: u16, answer: &Answer) -> io::Result<()> {
     write_number(output, u32::from(number), b' ')?;
     write_number(output, u32::from(answer.number), b' ')?;
@@ -84,18 +71,9 @@ fn write_line(output: &mut impl Write, number: u16, answer: &Answer) -> io::Resu
     write_number(output, answer.x, b'\n')
 }
 
-/// A number in decimal, and the byte after it. (With `write!` a replay takes half as long again.)
+/// A number in decimal, and the byte after it.
 fn write_number(output: &mut impl Write, number: u32, after: u8) -> io::Result<()> {
     let mut text = [after; DIGITS + 1];
-    let mut start = DIGITS;
-    let mut left = number;
-    loop {
-        start -= 1;
-        text[start] = b'0' + (left % 10) as u8;
-        left /= 10;
-        if left == 0 {
-            break;
-        }
-    }
+    let start = decimal::store(number, &mut text[..DIGITS]);
     output.write_all(&text[start..])
 }

@@ -4,7 +4,8 @@ use std::fs;
 use std::io;
 use std::path::Path;
 
-use crate::{programs, vectors};
+use crate::programs::{self, lessons};
+use crate::vectors;
 
 /// A file by its path below `crates/`.
 pub struct Stored {
@@ -48,6 +49,9 @@ pub fn check(crates: &Path) -> Result<String, String> {
         if stored != *bytes {
             return Err(format!("{path}: not what this program writes"));
         }
+    }
+    if let Some(path) = lessons::without_trace() {
+        return Err(format!("{path}: has no trace beside it"));
     }
     let stale = stale(crates, &files).map_err(|error| error.to_string())?;
     match stale.first() {

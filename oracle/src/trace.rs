@@ -7,12 +7,13 @@ pub const RECORD_LENGTH: usize = 20;
 /// "the two-byte mark 0x42 0x50"
 const MARK: [u8; 2] = [0x42, 0x50];
 
-/// What the trace reader refuses.
+/// What the trace reader refuses, and the writer.
 pub mod refused {
     pub const SHORT: u8 = 20;
     pub const MARK: u8 = 21;
     pub const NUMBER: u8 = 22;
     pub const ZERO_BYTE: u8 = 23;
+    pub const NO_ROOM: u8 = 24;
 }
 
 /// "The trace reader answers a record or a refusal: 20 fewer than 20 bytes, 21 wrong mark, 22
@@ -56,6 +57,16 @@ pub fn record(number: u16, access: &Access) -> [u8; RECORD_LENGTH] {
     record[12..16].copy_from_slice(&access.b.to_le_bytes());
     record[16..].copy_from_slice(&access.c.to_le_bytes());
     record
+}
+
+/// "given an access and the expected record number it stores 20 bytes at the start of a lent buffer
+/// and answers the next number." "24, fewer than 20 bytes of room, nothing stored"
+pub fn write(number: u16, access: &Access, buffer: &mut [u8]) -> Result<u16, u8> {
+    let Some(room) = buffer.first_chunk_mut() else {
+        return Err(refused::NO_ROOM);
+    };
+    *room = record(number, access);
+    Ok(next_number(number))
 }
 
 /// The trace of a list of accesses. "Numbers start at 0."

@@ -6,7 +6,7 @@ mod support;
 use std::fs::{self, File};
 use std::io::{BufRead, BufReader, Read, Write};
 use std::os::unix::fs::{symlink, PermissionsExt};
-use std::path::PathBuf;
+use std::path::{Path, PathBuf};
 use std::process::{Child, ChildStderr, Command};
 use std::sync::{Mutex, MutexGuard, PoisonError};
 use std::time::SystemTime;
@@ -19,7 +19,8 @@ const TOOLS: [&str; 16] = [
     "rm", "sh", "tail", "tee", "touch",
 ];
 
-const CRATES: &str = "# the crates\nbase:\nother: base\nmiddle: base io\nreplay: middle base io\n";
+const CRATES: &str = "# the crates\nbase:\nother: base\nmiddle: base io\n\
+                      replay: middle base io\nto_trace: base middle io\n";
 
 /// Links a program where it finds no stamp, as `rt` does.
 const RT: &str = r#"#!/bin/sh
@@ -27,12 +28,12 @@ echo "$@" >>calls
 echo 'rt: base proved (unchanged since it was last proved)'
 echo 'rt: middle proved (7 s)'
 echo 'a word of the prover'
-echo 'rt: replay proved (1 s)'
-[ ! -f target/stamp/replay ] || exit 0
+echo "rt: $2 proved (1 s)"
+[ ! -f target/stamp/$2 ] || exit 0
 mkdir -p target/bin target/stamp
-printf '#!/bin/sh\nexec cat\n' >target/bin/replay
-chmod +x target/bin/replay
-touch target/stamp/replay
+printf '#!/bin/sh\nexec cat\n' >target/bin/$2
+chmod +x target/bin/$2
+touch target/stamp/$2
 "#;
 
 const BUILDING: &str = "replay: building the program, and proving every crate that it stands on; \
@@ -57,7 +58,7 @@ impl Repository {
             folder: Folder::new(),
             _alone: ALONE.lock().unwrap_or_else(PoisonError::into_inner),
         };
-        for name in ["launch", "replay"] {
+        for name in ["launch", "replay", "to-trace"] {
             let from = PathBuf::from(ROOT).join(name);
             fs::copy(from, repository.path(name)).expect("a file of the launcher");
         }
@@ -84,10 +85,14 @@ impl Repository {
         self.folder.path().join(name)
     }
 
+    fn command(&self, program: impl AsRef<Path>) -> Command {
+        let mut command = command(program);
+        command.env("PATH", self.path("tools"));
+        command
+    }
+
     fn replay(&self) -> Command {
-        let mut replay = command(self.path("replay"));
-        replay.env("PATH", self.path("tools"));
-        replay
+        self.command(self.path("replay"))
     }
 
     fn start(&self) -> Ended {
@@ -154,6 +159,18 @@ fn what_was_not_run_or_was_removed_is_built_again() {
         };
         removed.expect("a part of the build");
     }
+}
+
+#[test]
+fn a_dash_in_a_name_is_an_underscore_in_its_crate() {
+    let repository = Repository::with_rt(RT);
+    let told = format!("{BUILDING}{BUILT}").replace("replay: ", "to-trace: ");
+    let told = told.replace("proved: replay", "proved: to_trace");
+    for told in [&told, ""] {
+        let to_trace = repository.command(repository.path("to-trace"));
+        fed(to_trace, INPUT).is(INPUT, told, 0);
+    }
+    assert_eq!(repository.calls(), "check to_trace\n");
 }
 
 #[test]
@@ -244,4 +261,17 @@ fn of_two_that_start_together_one_builds() {
         Ended::of(child).is(b"", "", 0);
     }
     assert_eq!(repository.calls(), "check replay\n");
+}
+
+#[test]
+fn two_programs_of_a_pipeline_are_built_one_after_the_other() {
+    let repository = Repository::with_rt(&format!("{RT}echo built >>calls\n"));
+    let mut pipeline = repository.command("bash");
+    pipeline.args(["-c", "set -o pipefail; \"$0\" | \"$1\""]);
+    pipeline.args([repository.path("replay"), repository.path("to-trace")]);
+    let ended = fed(pipeline, INPUT);
+    assert_eq!((ended.out.as_slice(), ended.status), (INPUT, 0));
+    let (one, other) = ("check replay\nbuilt\n", "check to_trace\nbuilt\n");
+    let calls = repository.calls();
+    assert!(calls == [one, other].concat() || calls == [other, one].concat());
 }

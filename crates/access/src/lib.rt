@@ -62,6 +62,12 @@ pub const RECORD_NUMBER: u8 = 22;
 
 pub const ZERO_BYTE: u8 = 23;
 
+// The record writer's.
+pub const NO_ROOM: u8 = 24;
+
+// The line reader's.
+pub const NO_LINE: u8 = 25;
+
 // The number of the side other than this one.
 pub fn other_side(side: u8) -> u8
     ensures { λ r. ⌜ (sideOf r ≡ other (sideOf side)) × (r < 2) ⌝ }

@@ -1,7 +1,7 @@
 -- Document 01, "Accesses": the seventeen kinds, row by row, and what an access gives.
 use mathlib.Core.Bool.{Bool, false, not, _&&_, _||_}
 use mathlib.Core.List.{List, [], _∷_}
-use Prim.Native.Nat.{ℕ, zero, suc, _-_, _/_}
+use Prim.Native.Nat.{ℕ, zero, suc, _-_, _/_, _<_}
 use lib.ListN.{getD}
 use Rattle.model.specs.Choice.{if_then_else_}
 use Rattle.model.specs.Checks.{Check, _for_, refusal, nonzero, above, misplaced, sharedLength}
@@ -29,6 +29,15 @@ pub record Access : Type 0 where
   pub a : ℕ
   pub b : ℕ
   pub c : ℕ
+
+-- an access whose numbers have those widths
+pub record Fits (q : Access) : Type 0 where
+  pub kind : q .kind < 256
+  pub side : q .side < 256
+  pub s : q .s < 256
+  pub a : q .a < 4294967296
+  pub b : q .b < 4294967296
+  pub c : q .c < 4294967296
 
 -- "Every access answers a number and two values, V and X. 0 is done."
 pub record Answer : Type 0 where

@@ -2,10 +2,10 @@
 use mathlib.Core.Path.{_≡_, refl}
 use mathlib.Core.Bool.{false}
 use mathlib.Core.List.{List}
-use Prim.Native.Nat.{ℕ, _+_, _-_, _<_, _≤_}
+use Prim.Native.Nat.{ℕ, _+_, _<_, _≤_}
 use native.Mathlib.Omega.{arith}
-use lib.ListN.{length, take, drop, length-drop}
-use lib.Seq.{sets, drop-drop, take-all}
+use lib.ListN.{length, drop, length-drop}
+use lib.Seq.{sets, drop-drop}
 use Rattle.model.specs.Accesses.{Access, access}
 use Rattle.model.specs.Trace.{recorded, refused, readRecord}
 use Rattle.model.specs.TraceLaws.{readingNumber}
@@ -17,17 +17,13 @@ use Rattle.trace.specs.declared.Read.the-variants.{Refused}
 use Rattle.trace.specs.Bridge.{readAs}
 use Rattle.standing.specs.Bridge.{PerformedOn, performed}
 use Rattle.player.specs.Bridge.{Played}
-use Rattle.report.specs.Bridge.{Written}
-use Rattle.report.specs.Laws.{begun, second-left, ended}
+use Rattle.decimal.specs.Bridge.{Written}
+use Rattle.decimal.specs.Laws.{begun, second-left, ended}
 
 -- The replay of the bytes from `at` on, stored from `end` on, gives the buffer and the standing of the whole chunk.
 pub record Left (whole : Replayed) (before input : List ℕ) (at : ℕ) (now : Standing) (end : ℕ) (out : List ℕ) : Type 0 where
   pub text : Written out end (replay now (drop at input) .text) (0 + length (whole .text)) (sets before 0 (whole .text))
   pub standing : replay now (drop at input) .standing ≡ whole .standing
-
--- the part of a slice from a place on
-pub from : (l : List ℕ) (at : ℕ) → take (length l - at) (drop at l) ≡ drop at l
-from l at = take-all (length l - at) (drop at l) (omega (arith, length-drop at l))
 
 pub all-left : (s : Standing) (input out : List ℕ) → Left (replay s input) out input 0 s 0 out
 all-left s input out = record { text = begun out 0 (replay s input .text); standing = refl }

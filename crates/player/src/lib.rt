@@ -7,7 +7,7 @@ ghost use Rattle.model.specs.Text.{lineText};
 ghost use Rattle.model.specs.Replay.{recordsIn, replay, lastText};
 ghost use Rattle.access.specs.Bridge.{answerAs};
 ghost use Rattle.trace.specs.Bridge.{readAs};
-ghost use Rattle.report.specs.Bridge.{Written};
+ghost use Rattle.decimal.specs.Bridge.{Written};
 ghost use Rattle.standing.specs.Bridge.{standingAs};
 ghost use Rattle.player.specs.Bridge.{Played};
 use access::Answer;

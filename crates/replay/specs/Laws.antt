@@ -13,6 +13,7 @@ use Rattle.model.specs.Replay.{Standing, replayStart, replayText, lastText}
 use Rattle.model.specs.ReplayLaws.{replayChunks, chunks-more, WholeRecords, chunked-text}
 use Rattle.standing.specs.Bridge.{standingAs}
 use Rattle.stream.specs.Bridge.{chunkBytes, brokeOff}
+use Rattle.stream.specs.Laws.{end-is}
 use Rattle.turn.specs.declared.Turn.{Turn}
 use Rattle.turn.specs.Bridge.{bytesOf, Turned, closingText}
 use Rattle.turn.specs.Laws.{more-full, more-going}
@@ -62,18 +63,6 @@ full-whole [] last f = tt
 full-whole (bytes ∷ []) last f = (omega (arith, f .0), tt)
 full-whole (bytes ∷ next ∷ chunks) last f = (omega (arith, f .0), full-whole (next ∷ chunks) last (f .1))
 
-why : (full stopped cut lost more : Bool) → more ≡ (full && not stopped && not cut && not lost) → (lost || more || cut) ≡ false →
-    (full ≡ false) ⊎ (stopped ≡ true)
-why false stopped cut lost more e h = inl refl
-why true true cut lost more e h = inr refl
-why true false cut lost more e h =
-    let some = or-left (lost || more) cut h in
-    no-both (sym (or-right lost more some) ∙ (rw (or-right (lost || more) cut h, or-left lost more some) at e))
-
-short : {P : Type 0} (size : ℕ) → size ≤ chunkBytes → (eqb size chunkBytes ≡ false) ⊎ P → (size < chunkBytes) ⊎ P
-short size l (inl e) = inl (omega (arith, eqb-false size chunkBytes e))
-short size l (inr p) = inr p
-
 module _ {turn : Turn} {input out shared window : List ℕ} (e : Ended turn input out shared window) where
   -- what was read and is answered, chunk by chunk
   abbrev pub chunksOf : List (List ℕ)
@@ -88,4 +77,4 @@ module _ {turn : Turn} {input out shared window : List ℕ} (e : Ended turn inpu
 
   -- It was the end of the input that ended it, or a refusal: the last chunk is short, or the reader refused a record of it.
   pub end-reached : brokeOff (turn .chunk) (turn .lost) (turn .more) ≡ false → (turn .chunk .size < chunkBytes) ⊎ (turn .standing .stopped ≡ true)
-  end-reached h = short (turn .chunk .size) (e .last .size) (why (eqb (turn .chunk .size) chunkBytes) (turn .standing .stopped) (turn .chunk .cut) (turn .lost) (turn .more) (e .last .more) h)
+  end-reached h = end-is (turn .chunk) (turn .standing .stopped) (turn .lost) (turn .more) (e .last .size) (e .last .more) h

@@ -11,12 +11,6 @@ use turn::Turn;
 // Every loop must have an end: 5 times 2 to the 50 chunks, whose records a u64 still counts. At 10 GB a second they last a thousand years.
 const CHUNKS: u64 = 5629499534213120;
 
-fn input_buffer() -> [u8; 65520]
-    ensures { λ r. ⌜ length r ≡ 65520 ⌝ }
-{
-    [0; 65520]
-}
-
 // A record's line has at most 32 bytes.
 fn output_buffer() -> [u8; 104832]
     ensures { λ r. ⌜ length r ≡ 104832 ⌝ }
@@ -62,7 +56,7 @@ fn finish(turn: Turn, out: &mut [u8])
 fn main() {
     let mut shared = standing::shared_memory();
     let mut window = standing::window_memory();
-    let mut input = input_buffer();
+    let mut input = stream::input_buffer();
     let mut out = output_buffer();
     let turn = replay_input(
         standing::start(),

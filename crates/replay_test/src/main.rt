@@ -4,13 +4,6 @@ ghost use Prim.Native.Nat.{_+_, _<_, _≤_, _^_};
 ghost use lib.ListN.{length};
 use standing::Standing;
 
-// A chunk is what the replay program reads at a time: 3,276 records of 20 bytes.
-fn input_buffer() -> [u8; 65520]
-    ensures { λ r. ⌜ length r ≡ 65520 ⌝ }
-{
-    [0; 65520]
-}
-
 // A record's line has at most 32 bytes.
 fn output_buffer() -> [u8; 104832]
     ensures { λ r. ⌜ length r ≡ 104832 ⌝ }
@@ -109,7 +102,7 @@ fn replay_all(input: &mut [u8], out: &mut [u8])
 }
 
 fn main() {
-    let mut input = input_buffer();
+    let mut input = stream::input_buffer();
     let mut out = output_buffer();
     replay_all(&mut input, &mut out);
 }

@@ -4,12 +4,19 @@ ghost use Prim.Native.Nat.{_≤_};
 ghost use lib.ListN.{length, take};
 ghost use denote.Ref.{ptr};
 ghost use Rattle.model.specs.Choice.{if_then_else_};
-ghost use Rattle.stream.specs.Bridge.{negative, Reads, atHand, goesOn, brokeOff};
+ghost use Rattle.stream.specs.Bridge.{negative, Keeps, Reads, atHand, leastOf, goesOn, brokeOff};
 
 // A full chunk: 3,276 records of 20 bytes.
 const CHUNK: usize = 65520;
 
-// What reading a chunk gave: so many bytes at the start of the buffer, and whether a read failed before the input ended or the buffer was full.
+pub fn input_buffer() -> [u8; 65520]
+    ensures { λ r. ⌜ length r ≡ 65520 ⌝ }
+{
+    [0; 65520]
+}
+
+// What reading a chunk gave: so many bytes at the start of the buffer, those that were kept among them, and whether a read failed before the input
+// ended or the buffer was full.
 pub struct Chunk {
     pub size: usize,
     pub cut: bool,
@@ -28,14 +35,25 @@ impl Chunk {
         }
     }
 
-    // Whether more is to be read. `stopped`: a record was refused; `lost`: a write failed.
+    // How many bytes must be at hand for an access to be read, where its reader looks at no more than `longest`: one where the input has ended.
+    pub fn least(self, longest: usize) -> usize
+        ensures { λ r. ⌜ r ≡ leastOf self longest ⌝ }
+    {
+        if (self.size == CHUNK) | self.cut {
+            longest
+        } else {
+            1
+        }
+    }
+
+    // Whether more is to be read. `stopped`: an access was refused; `lost`: a write failed.
     pub fn goes_on(self, stopped: bool, lost: bool) -> bool
         ensures { λ r. ⌜ r ≡ goesOn self stopped lost ⌝ }
     {
         (self.size == CHUNK) & !stopped & !self.cut & !lost
     }
 
-    // Whether the last chunk is where a replay broke off. `more`: more was to be read, but no more may be.
+    // Whether the last chunk is where the program broke off. `more`: more was to be read, but no more may be.
     pub fn broke_off(self, lost: bool, more: bool) -> bool
         ensures { λ r. ⌜ r ≡ brokeOff self lost more ⌝ }
     {
@@ -57,11 +75,27 @@ fn failed(got: isize) -> bool
     got < 0
 }
 
-// Reads until the buffer is full, the input ends or a read fails. A read that a signal interrupts has failed.
-pub fn read_chunk(buffer: &mut [u8]) -> Chunk
-    ensures { λ r. ⌜ Reads r (now (buffer .exit)) ⌝ }
+// Moves the bytes of a chunk from a place on to the start of the buffer, and gives how many they are: what is cut off at the end of a chunk is kept
+// for the next.
+pub fn keep(buffer: &mut [u8], at: usize, size: usize) -> usize
+    requires { ⌜ (at ≤ size) × (size ≤ length (now buffer)) ⌝ }
+    ensures { λ r. ⌜ Keeps (now (buffer .entry)) at size r (now (buffer .exit)) ⌝ }
 {
-    let mut size = 0;
+    let kept = size - at;
+    let mut i = 0;
+    while i < kept {
+        buffer[i] = buffer[at + i];
+        i += 1;
+    }
+    kept
+}
+
+// Reads behind the bytes that are kept until the buffer is full, the input ends or a read fails. A read that a signal interrupts has failed.
+pub fn read_chunk(buffer: &mut [u8], kept: usize) -> Chunk
+    requires { ⌜ kept ≤ length (now buffer) ⌝ }
+    ensures { λ r. ⌜ Reads (now (buffer .entry)) kept r (now (buffer .exit)) ⌝ }
+{
+    let mut size = kept;
     while size < buffer.len() {
         let got = libc::read(libc::STDIN_FILENO, &mut buffer[size..]);
         if failed(got) {

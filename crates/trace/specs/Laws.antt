@@ -1,15 +1,19 @@
--- The number of a record beside the checks of what stands there: 22 is given after 20 and 21, and before 23.
+-- The number of a record beside the checks of what stands there: 22 is given after 20 and 21, and before 23; and a record stored part by part.
 use mathlib.Core.Path.{_≡_, refl}
 use mathlib.Core.Bool.{Bool, true, false, not, _&&_}
 use mathlib.Core.List.{List, [], _∷_}
-use Prim.Native.Nat.{ℕ}
+use Prim.Native.Nat.{ℕ, _≤_}
 use lib.ListN.{length, getD}
+use lib.Seq.{sets, sets-eq}
 use lib.Dec.{eqb, ltb}
 use borrow.Author.Tests.{eq-eqb}
 use Rattle.model.specs.Choice.{if_then_else_}
 use Rattle.model.specs.Checks.{_for_, refusal}
-use Rattle.model.specs.Trace.{traceChecks}
-use Rattle.trace.specs.Bridge.{recordNumber, damage}
+use Rattle.model.specs.Lanes.{writeDword}
+use Rattle.model.specs.Accesses.{Access}
+use Rattle.model.specs.Trace.{recordBytes, nextNumber, traceChecks, next, writeRecord}
+use Rattle.model.specs.TraceLaws.{write-stores}
+use Rattle.trace.specs.Bridge.{recordNumber, damage, headBytes}
 
 abbrev given : (short unmarked unexpected nonzero : Bool) → ℕ
 given short unmarked unexpected nonzero = refusal (20 for short ∷ 21 for unmarked ∷ 22 for unexpected ∷ 23 for nonzero ∷ [])
@@ -26,3 +30,14 @@ pub numbered : (bytes : List ℕ) (expected d : ℕ) → d ≡ damage bytes
 numbered bytes expected d h =
     rw (h, eq-eqb (recordNumber bytes) (recordNumber bytes) refl)
     (between (ltb (length bytes) 20) (not (eqb (getD bytes 0 0) 0x42 && eqb (getD bytes 1 0) 0x50)) (not (eqb (recordNumber bytes) expected)) (not (eqb (getD bytes 7 0) 0)))
+
+-- THE WRITER
+
+-- the bytes of a record stored in turn: the first eight, then A, B and C
+pub stored : (number : ℕ) (q : Access) (out : List ℕ) {n : ℕ} {head a b c : List ℕ} → 20 ≤ length out → head ≡ sets out 0 (headBytes number q) →
+    a ≡ writeDword head 8 0 (q .a) → b ≡ writeDword a 12 0 (q .b) → c ≡ writeDword b 16 0 (q .c) → n ≡ nextNumber number →
+    record { answer = next n; buffer = c } ≡ writeRecord number q out
+unfolding writeDword
+stored number q out {c} h e ea eb ec m =
+    let all : c ≡ sets out 0 (recordBytes number q) = rw (ec, eb, ea, e) in
+    rw (all, m, write-stores number q out h, sets-eq (recordBytes number q) out 0 h)

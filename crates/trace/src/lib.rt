@@ -1,13 +1,14 @@
-// The trace reader: one record of 20 bytes against the expected record number.
+// The record of 20 bytes: its reader, against the expected record number, and its writer.
 ghost use mathlib.Core.Path.{_≡_};
 ghost use mathlib.Core.List.{[], _∷_};
 ghost use Prim.Native.Nat.{_+_, _≤_};
 ghost use lib.ListN.{length};
+ghost use lib.Seq.{sets};
 ghost use Rattle.model.specs.Checks.{refusal};
 ghost use Rattle.model.specs.Lanes.{dwordOf};
-ghost use Rattle.model.specs.Trace.{numberAt, traceChecks, accessAt, readRecord, nextNumber};
+ghost use Rattle.model.specs.Trace.{numberAt, traceChecks, accessAt, readRecord, nextNumber, writeRecord};
 ghost use Rattle.access.specs.Bridge.{accessAs};
-ghost use Rattle.trace.specs.Bridge.{readAs, damage};
+ghost use Rattle.trace.specs.Bridge.{readAs, damage, headBytes, wroteAs};
 use access::Access;
 
 // "The trace reader answers a record or a refusal": the refusal's number alone.
@@ -100,4 +101,41 @@ pub fn next_number(n: u16) -> u16
     ensures { λ r. ⌜ r ≡ nextNumber n ⌝ }
 {
     std::num::wrapping_add_u16(n, 1)
+}
+
+// "It stores 20 bytes at the start of a lent buffer and answers the next number"; or the refusal's number alone.
+pub enum Write {
+    Next(u16),
+    Refused(u8),
+}
+
+// Mark, number, kind, side, S and the zero byte.
+fn write_head(number: u16, q: Access, out: &mut [u8])
+    requires { ⌜ 8 ≤ length (now out) ⌝ }
+    ensures { λ _. ⌜ now (out .exit) ≡ sets (now (out .entry)) 0 (headBytes number (accessAs q)) ⌝ }
+{
+    out[0] = MARK[0];
+    out[1] = MARK[1];
+    out[2] = (number % 256) as u8;
+    out[3] = (number / 256 % 256) as u8;
+    out[4] = q.kind;
+    out[5] = q.side;
+    out[6] = q.s;
+    out[7] = 0;
+}
+
+// Writes the record of an access with this number at the start of the buffer. "The rest of the buffer is untouched."
+pub fn write_record(number: u16, q: Access, out: &mut [u8]) -> Write
+    ensures { λ r. ⌜ wroteAs r (now (out .exit)) ≡ writeRecord number (accessAs q) (now (out .entry)) ⌝ }
+{
+    if out.len() < RECORD_LENGTH {
+        return Write::Refused(access::NO_ROOM);
+    }
+    write_head(number, q, out);
+    lanes::write_dword(out, 8, lanes::ALL_LANES, q.a);
+    lanes::write_dword(out, 12, lanes::ALL_LANES, q.b);
+    let last = RECORD_LENGTH - 4;
+    lanes::write_dword(out, last, lanes::ALL_LANES, q.c);
+    let next = next_number(number);
+    Write::Next(next)
 }

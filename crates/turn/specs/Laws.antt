@@ -1,5 +1,5 @@
 -- A chunk is replayed by what its answering promises; one behind which more is read was full.
-use mathlib.Core.Path.{_≡_, refl, sym, _∙_}
+use mathlib.Core.Path.{_≡_, sym, _∙_}
 use mathlib.Core.Bool.{Bool, true, false, not, _&&_}
 use mathlib.Core.List.{List}
 use Prim.Native.Nat.{ℕ, _-_, _≤_}
@@ -8,13 +8,15 @@ use native.Mathlib.Omega.{arith}
 use lib.ListN.{length, take}
 use lib.Seq.{length-take-le}
 use lib.Dec.{eqb, eqb→eq}
+use borrow.Author.Tests.{not-true}
 use Rattle.model.specs.Choice.{if_then_else_}
 use Rattle.model.specs.TestLaws.{and-left, and-right}
 use Rattle.model.specs.Replay.{Standing, replay}
-use Rattle.report.specs.Laws.{text-there}
+use Rattle.decimal.specs.Laws.{text-there}
 use Rattle.standing.specs.Bridge.{standingAs}
 use Rattle.player.specs.Bridge.{Played}
 use Rattle.stream.specs.Bridge.{atHand, chunkBytes, goesOn}
+use Rattle.stream.specs.Laws.{more-is}
 use Rattle.turn.specs.declared.Turn.{Turn}
 use Rattle.turn.specs.Bridge.{bytesOf, Turned}
 
@@ -27,19 +29,9 @@ turned turn b e p h t m =
     let q = rw (sub-zero, e) at p in
     record { size = b; text = text-there (omega (arith, q .text .place)) (q .text); end = omega (arith, q .text .place); standing = q .standing; told = t; more = m }
 
-unless : (b : Bool) → not b ≡ true → b ≡ false
-unless false h = refl
-unless true h = sym h
-
-more-is : (full stopped cut lost : Bool) → (full && not stopped && not cut && not lost) ≡ true → (full ≡ true) × (stopped ≡ false) × (cut ≡ false)
-more-is full stopped cut lost h =
-    let read = and-left (full && not stopped && not cut) (not lost) h in
-    let going = and-left (full && not stopped) (not cut) read in
-    (and-left full (not stopped) going, unless stopped (and-right full (not stopped) going), unless cut (and-right (full && not stopped) (not cut) read))
-
 module _ {start : Standing} {turn : Turn} {input out shared window : List ℕ} (t : Turned start turn input out shared window) (m : turn .more ≡ true) where
   is : (eqb (turn .chunk .size) chunkBytes ≡ true) × (turn .standing .stopped ≡ false) × (turn .chunk .cut ≡ false)
-  is = more-is (eqb (turn .chunk .size) chunkBytes) (turn .standing .stopped) (turn .chunk .cut) (turn .lost) (sym (t .more) ∙ m)
+  is = more-is (turn .chunk) (turn .standing .stopped) (turn .lost) (sym (t .more) ∙ m)
 
   -- a chunk behind which more is read was full, and nothing of it was refused
   pub more-full : length input ≡ chunkBytes → length (bytesOf turn input) ≡ chunkBytes

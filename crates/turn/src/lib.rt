@@ -3,7 +3,7 @@ ghost use mathlib.Core.Path.{_≡_};
 ghost use mathlib.Core.Bool.{true};
 ghost use Prim.Native.Nat.{_+_, _<_, _≤_, _^_};
 ghost use lib.ListN.{length};
-ghost use Rattle.report.specs.Bridge.{Written};
+ghost use Rattle.decimal.specs.Bridge.{Written};
 ghost use Rattle.standing.specs.Bridge.{standingAs};
 ghost use Rattle.turn.specs.Bridge.{firstTurn, Turned, closingText, faultText};
 use standing::Standing;
@@ -62,7 +62,7 @@ pub fn replay_chunk(
     ensures { λ r. ⌜ r .standing .count ≤ last .standing .count + 3276 ⌝ }
 {
     let start = last.standing;
-    let chunk = stream::read_chunk(input);
+    let chunk = stream::read_chunk(input, 0);
     let size = chunk.at_hand();
     let replayed = player::answer_chunk(start, shared, window, &input[0..size], out);
     let end = replayed.end;

@@ -1,5 +1,6 @@
 //! What each test program reads, and what it must write.
 
+mod convert;
 mod device;
 mod pins;
 mod replay;
@@ -7,7 +8,7 @@ mod trace;
 
 use crate::stored::Stored;
 
-pub use replay::{long_trace, FEWEST_RECORDS};
+pub use replay::{lessons, long_list, long_trace, FEWEST_RECORDS};
 
 /// A program by the name of its crate.
 struct Program {
@@ -28,6 +29,7 @@ pub fn files() -> Vec<Stored> {
     programs
         .into_iter()
         .chain(replay::programs())
+        .chain(convert::programs())
         .flat_map(|program| {
             let path = |file| format!("{}/{file}", program.name);
             [
@@ -35,6 +37,6 @@ pub fn files() -> Vec<Stored> {
                 Stored::new(path("stdout"), program.stdout),
             ]
         })
-        .chain(replay::lessons::texts())
+        .chain(lessons::files())
         .collect()
 }

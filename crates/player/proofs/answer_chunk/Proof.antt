@@ -13,7 +13,8 @@ use Rattle.model.specs.ReplayLaws.{replay-stopped}
 use Rattle.trace.specs.Bridge.{readAs}
 use Rattle.standing.specs.Bridge.{standingAs, performedAs}
 use Rattle.standing.specs.Laws.{counted, stop-counted}
-use Rattle.player.specs.Laws.{Left, all-left, none-left, answered-left, refused-left, read-refused, from}
+use Rattle.decimal.specs.Laws.{from-place}
+use Rattle.player.specs.Laws.{Left, all-left, none-left, answered-left, refused-left, read-refused}
 use Rattle.player.proofs.answer_chunk.Statement.{statement}
 use Rattle.player.proofs.answer_chunk.Tie as tie
 
@@ -45,7 +46,7 @@ read-is : (c : tie.After-read-record Inv-loop μ-loop) →
     readAs (c .read-record .result) ≡ readRecord (drop (l .at) (c .before .before .before .before .before .before .before .before .before .args .input .now)) (l .standing .expected)
 read-is c =
     let l = c .before .before .before in
-    rw (from (l .before .before .before .before .before .before .args .input .now) (l .loop .at)) at (c .read-record .ensures)
+    rw (from-place (l .before .before .before .before .before .before .args .input .now) (l .loop .at)) at (c .read-record .ensures)
 
 returns-2 : tie.Need-returns-2 Inv-loop μ-loop
 returns-2 c =

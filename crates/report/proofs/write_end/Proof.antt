@@ -4,7 +4,7 @@ use native.Mathlib.Omega.{arith}
 use lib.ListN.{length}
 use Rattle.model.specs.Text.{decimalText, endText}
 use Rattle.model.specs.TextLaws.{digits-64}
-use Rattle.report.specs.Laws.{then}
+use Rattle.decimal.specs.Laws.{then}
 use borrow.Author.Needs.{needs}
 use Rattle.report.proofs.write_end.Statement.{statement}
 use Rattle.report.proofs.write_end.Tie as tie

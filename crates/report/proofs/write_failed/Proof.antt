@@ -5,7 +5,7 @@ use lib.ListN.{length}
 use Rattle.model.specs.Text.{decimalText}
 use Rattle.model.specs.TextLaws.{digits-64}
 use Rattle.report.specs.Bridge.{failedText}
-use Rattle.report.specs.Laws.{then}
+use Rattle.decimal.specs.Laws.{then}
 use borrow.Author.Needs.{needs}
 use Rattle.report.proofs.write_failed.Statement.{statement}
 use Rattle.report.proofs.write_failed.Tie as tie

@@ -4,7 +4,7 @@ use native.Mathlib.Omega.{arith}
 use lib.ListN.{length}
 use Rattle.model.specs.Text.{decimalText, lineText}
 use Rattle.model.specs.TextLaws.{digits-8, digits-16, digits-32}
-use Rattle.report.specs.Laws.{then}
+use Rattle.decimal.specs.Laws.{then}
 use borrow.Author.Needs.{needs}
 use Rattle.report.proofs.write_line.Statement.{statement}
 use Rattle.report.proofs.write_line.Tie as tie

@@ -40,14 +40,20 @@ const BORDER_CHANGES: [(usize, usize); 5] = [
 
 /// Between them they end in every required line, or this panics.
 pub fn traces() -> Vec<Vec<u8>> {
+    let mut traces = few();
+    borders(&mut traces);
+    past_the_last_number(&mut traces);
+    assert_ends(&traces);
+    traces
+}
+
+/// Those of few records.
+pub fn few() -> Vec<Vec<u8>> {
     let few = random(FEW, SEED);
     let mut traces = Vec::new();
     lengths(&few, &mut traces);
     changes(&few, &mut traces);
     lost_and_doubled(&few, &mut traces);
-    borders(&mut traces);
-    past_the_last_number(&mut traces);
-    assert_ends(&traces);
     traces
 }
 

@@ -1,12 +1,13 @@
 //! Traces, and what the replay writes of them.
 
-mod damaged;
+pub mod damaged;
 pub mod lessons;
 mod long;
 mod short;
 
 use crate::drive::builder::Builder;
 use crate::drive::coverage::Coverage;
+use crate::list::list;
 use crate::replay::{bench, text};
 use crate::rng::Rng;
 use crate::trace::{trace, RECORD_LENGTH};
@@ -34,6 +35,11 @@ pub fn programs() -> [Program; 2] {
 /// A trace of so many records, at least `FEWEST_RECORDS`, every kind done and refused among them.
 pub fn long_trace(records: usize) -> Vec<u8> {
     trace(&long::accesses(records))
+}
+
+/// The text list of the same accesses.
+pub fn long_list(records: usize) -> Vec<u8> {
+    list(&long::accesses(records))
 }
 
 /// The trace of what a script does to a fresh card. Nobody asks what it reaches.

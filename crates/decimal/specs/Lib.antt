@@ -1,0 +1,3 @@
+pub mod Bridge
+pub mod Laws
+pub mod ReadLaws
