@@ -156,26 +156,32 @@ impl Card {
         (address - self.settings.base) as usize
     }
 
-    /// "V entry, X 1; if empty V 4,294,967,295, X 0"
+    /// "V entry [..]; if empty V 4,294,967,295, X 0". Document 02, L2: "A take answers in X the
+    /// entries held before it, so X 0 still means empty and X 1 means that was the last."
     fn take(&mut self, fifo: usize) -> (u32, u32) {
-        match self.fifos[fifo].pop_front() {
-            Some(entry) => (entry, 1),
-            None => (EMPTY_TAKE, 0),
-        }
+        let before = self.held(fifo);
+        let v = self.fifos[fifo].pop_front().unwrap_or(EMPTY_TAKE);
+        (v, before)
     }
 
     /// "A put on a full one keeps it as it is, loses the entry and raises event 0 if the local
-    /// side put it, event 1 if the host did, in both registers."
+    /// side put it, event 1 if the host did, in both registers." Document 02, L2: "V of a put is
+    /// the number of entries held after it, 1 to 32; a lost put answers V 32, X 0."
     fn put(&mut self, fifo: usize, caller: Side, entry: u32) -> (u32, u32) {
         if self.fifos[fifo].len() < FIFO_DEPTH {
             self.fifos[fifo].push_back(entry);
-            return (0, 1);
+            return (self.held(fifo), 1);
         }
         self.raise_in_both(match caller {
             Side::Local => event::LOCAL_FIFO_OVERFLOW,
             Side::Host => event::PCI_FIFO_OVERFLOW,
         });
-        (0, 0)
+        (self.held(fifo), 0)
+    }
+
+    /// The entries that a FIFO holds.
+    fn held(&self, fifo: usize) -> u32 {
+        self.fifos[fifo].len() as u32
     }
 
     /// "A claim sets the caller's flag exactly when the other side's flag of that pair is clear;

@@ -1,4 +1,5 @@
-//! The fourteen P cases of document 01, and its whole case.
+//! The fourteen P cases of document 01, with what puts and takes answer by document 02, L2; and its
+//! whole case.
 
 use oracle::access::{kind, Access, Answer};
 use oracle::card::fresh;
@@ -83,7 +84,7 @@ fn p4_reserved_positions_stay_0() {
 fn p5_bit_6_follows_fifo_1() {
     let mut bench = Bench::new();
     let put = bench.access(kind::PUT, HOST, 1, 0, 0, 0);
-    assert_eq!(put, Answer::done(0, 1));
+    assert_eq!(put, Answer::done(1, 1));
     assert_eq!(bench.lint(), 64);
     bench.value(kind::INTERRUPT_WRITE, LOCAL, 64);
     assert_eq!(bench.lint(), 64);
@@ -101,10 +102,12 @@ fn p6_take_from_empty() {
 #[test]
 fn p7_overflow() {
     let mut bench = Bench::new();
-    for entry in 0..33 {
+    for entry in 0..32 {
         let put = bench.access(kind::PUT, HOST, 1, 0, entry, 0);
-        assert_eq!(put, Answer::done(0, u32::from(entry < 32)));
+        assert_eq!(put, Answer::done(entry + 1, 1));
     }
+    let lost = bench.access(kind::PUT, HOST, 1, 0, 32, 0);
+    assert_eq!(lost, Answer::done(32, 0));
     assert_eq!(bench.lint(), 66);
 }
 

@@ -1,10 +1,13 @@
-//! Laws of document 01 on random records and accesses.
+//! Laws of document 01, and of document 02, L2, on random records and accesses.
+
+use std::collections::BTreeSet;
 
 use oracle::access::{kind, Access, Answer};
 use oracle::arbitrary;
 use oracle::card::Card;
 use oracle::dword::{lane_bits, NO_LANES};
 use oracle::pins::decode;
+use oracle::replay::bench;
 use oracle::rng::Rng;
 use oracle::source::{source, Memory, Part};
 use oracle::transfer::Transfer;
@@ -173,7 +176,7 @@ fn accepted_puts_are_takes_and_entries_held() {
             Access::new(kind::TAKE, rng.below(2) as u8, fifo, 0, 0, 0)
         };
         let answer = world.access(access);
-        if answer.number == 0 && answer.x == 1 {
+        if answer.number == 0 && answer.x != 0 {
             if access.kind == kind::PUT {
                 put[usize::from(fifo)].push(entry);
             } else {
@@ -184,6 +187,65 @@ fn accepted_puts_are_takes_and_entries_held() {
     for ((put, taken), held) in put.iter().zip(taken).zip(&world.card.fifos) {
         let out: Vec<u32> = taken.into_iter().chain(held.iter().copied()).collect();
         assert_eq!(*put, out);
+    }
+}
+
+/// "V of a put is the number of entries held after it, 1 to 32; a lost put answers V 32, X 0. A
+/// take answers in X the entries held before it, so X 0 still means empty". The entries held are
+/// counted by the answers alone: the accepted puts of a FIFO since the last done reset, less its
+/// successful takes.
+#[test]
+fn puts_and_takes_tell_how_full_a_fifo_is() {
+    let mut rng = Rng::new(9);
+    let mut world = bench();
+    let mut held = [0; 4];
+    let mut told = BTreeSet::new();
+    for round in 0..ROUNDS {
+        let access = fifo_list_access(&mut rng, &world.card, round / 2000 % 2 == 0);
+        let answer = world.access(access);
+        if answer.number != 0 {
+            continue;
+        }
+        let fifo = usize::from(access.s);
+        let succeeded = u32::from(answer.x != 0);
+        match access.kind {
+            kind::RESET => held = [0; 4],
+            kind::PUT => {
+                let room = u32::from(held[fifo] < 32);
+                held[fifo] += succeeded;
+                assert_eq!(answer, Answer::done(held[fifo], room));
+                told.insert((kind::PUT, succeeded, answer.v));
+            }
+            kind::TAKE => {
+                assert_eq!(answer.x, held[fifo]);
+                assert!(answer.x != 0 || answer.v == u32::MAX);
+                held[fifo] -= succeeded;
+                told.insert((kind::TAKE, succeeded, answer.x));
+            }
+            _ => (),
+        }
+    }
+    let mut every = BTreeSet::from([(kind::PUT, 0, 32), (kind::TAKE, 0, 0)]);
+    for kind in [kind::PUT, kind::TAKE] {
+        every.extend((1..=32).map(|held| (kind, 1, held)));
+    }
+    assert_eq!(told, every);
+}
+
+/// A put or a take, by either side; now and then a reset, one in two of them refused, or anything.
+/// Two in three are puts while the FIFOs fill, and takes while they do not.
+fn fifo_list_access(rng: &mut Rng, card: &Card, filling: bool) -> Access {
+    if rng.one_in(4) {
+        return access(rng, card);
+    }
+    let (side, s) = (rng.below(2) as u8, rng.below(4) as u8);
+    if rng.one_in(1000) {
+        return Access::new(kind::RESET, side, s / 2, 0, 0, 0);
+    }
+    if rng.one_in(3) == filling {
+        Access::new(kind::TAKE, side, s, 0, 0, 0)
+    } else {
+        Access::new(kind::PUT, side, s, 0, rng.word(), 0)
     }
 }
 

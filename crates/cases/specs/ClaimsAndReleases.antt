@@ -40,7 +40,7 @@ entries =
     ∷ q 7 0 2 0 0 0 gives r 0 1 0
     ∷ q 14 0 0 16372 268435520 12 gives r 0 3 0
     ∷ q 0 0 0 4 0 0 gives r 3 0 0
-    ∷ q 6 0 2 0 0 0 gives r 0 0 1
+    ∷ q 6 0 2 0 0 0 gives r 0 1 1
     ∷ q 16 2 0 0 0 0 gives r 2 0 0
     ∷ q 14 0 0 0 268435456 5 gives r 6 0 0
     ∷ q 7 1 2 0 0 0 gives r 0 0 0

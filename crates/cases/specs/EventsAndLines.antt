@@ -22,7 +22,7 @@ entries =
     ∷ q 12 1 0 0 4294967295 0 gives r 0 0 0
     ∷ q 11 0 0 0 0 0 gives r 0 66781184 0
     ∷ q 11 1 0 0 0 0 gives r 0 65732608 0
-    ∷ q 6 0 1 0 7 0 gives r 0 0 1
+    ∷ q 6 0 1 0 7 0 gives r 0 1 1
     ∷ q 11 0 0 0 0 0 gives r 0 66781248 0
     ∷ q 11 1 0 0 0 0 gives r 0 65732672 0
     ∷ q 13 0 0 0 0 0 gives r 0 1 0
@@ -32,7 +32,7 @@ entries =
     ∷ q 13 0 0 0 0 0 gives r 0 1 0
     ∷ q 13 1 0 0 0 0 gives r 0 0 0
     ∷ q 5 1 1 0 0 0 gives r 0 7 1
-    ∷ q 6 1 3 0 8 0 gives r 0 0 1
+    ∷ q 6 1 3 0 8 0 gives r 0 1 1
     ∷ q 11 0 0 0 0 0 gives r 0 4194432 0
     ∷ q 11 1 0 0 0 0 gives r 0 8388736 0
     ∷ q 13 0 0 0 0 0 gives r 0 0 0

@@ -20,10 +20,10 @@ entries : List (Entry Access Answer)
 entries =
     q 13 0 0 0 0 0 gives r 0 1 0
     ∷ q 13 1 0 0 0 0 gives r 0 1 0
-    ∷ q 6 1 0 0 1 0 gives r 0 0 0
-    ∷ q 6 0 1 0 1 0 gives r 0 0 0
-    ∷ q 6 0 2 0 1 0 gives r 0 0 0
-    ∷ q 6 1 3 0 1 0 gives r 0 0 0
+    ∷ q 6 1 0 0 1 0 gives r 0 32 0
+    ∷ q 6 0 1 0 1 0 gives r 0 32 0
+    ∷ q 6 0 2 0 1 0 gives r 0 32 0
+    ∷ q 6 1 3 0 1 0 gives r 0 32 0
     ∷ q 9 0 0 0 16781876 0 gives r 0 0 0
     ∷ q 9 1 0 0 16794373 0 gives r 0 0 0
     ∷ q 16 1 0 0 0 0 gives r 0 0 0
@@ -70,7 +70,7 @@ entries =
     ∷ q 7 0 0 0 0 0 gives r 0 1 0
     ∷ q 7 1 3 0 0 0 gives r 0 1 0
     ∷ q 16 1 0 0 0 0 gives r 0 0 0
-    ∷ q 6 0 2 0 5 0 gives r 0 0 0
+    ∷ q 6 0 2 0 5 0 gives r 0 32 0
     ∷ q 0 0 0 0 0 0 gives r 0 0 0
     ∷ q 11 0 0 0 0 0 gives r 0 0 0
     ∷ q 11 1 0 0 0 0 gives r 0 0 0

@@ -1,29 +1,29 @@
 -- Laws of take and put: who puts, told by numbers, and the effects branch by branch, by what the card's FIFOs gave.
 use mathlib.Core.Path.{_≡_, refl, ap, sym, _∙_}
-use mathlib.Core.Bool.{true, false, _||_}
+use mathlib.Core.Bool.{Bool, true, false, _||_}
 use mathlib.Core.List.{List, [], _∷_}
-use Prim.Native.Nat.{ℕ, zero, suc}
+use Prim.Native.Nat.{ℕ, zero, suc, _+_}
 use native.Mathlib.Omega.{arith}
 use lib.ListN.{length}
 use lib.Dec.{eqb, ltb}
 use borrow.Author.Tests.{ne-eqb}
 use Rattle.model.specs.Sides.{Side, host, local}
 use Rattle.model.specs.Events.{mask}
-use Rattle.model.specs.Fifos.{entriesOf, pushedOn, poppedFrom, putter}
+use Rattle.model.specs.Fifos.{entriesOf, pushedOn, putter}
 use Rattle.model.specs.State.{withFifos, withInterrupts}
-use Rattle.model.specs.Changes.{pushed, popped, raisedInBoth, nothing, Effect, done}
+use Rattle.model.specs.Changes.{nothing, Effect}
 use Rattle.model.specs.FifosAndFlags.{overflow, takenFrom, putInto}
 use Rattle.model.specs.TestLaws.{no-both, or-false, if-case}
 use Rattle.access.specs.declared.Answer.the-variants.{Done}
 use Rattle.fifos.specs.declared.Put.{Put}
 use Rattle.fifos.specs.declared.Taken.{Taken}
-use Rattle.fifos.specs.Bridge.{fifosAs, putOn, putAs, takenOff, takenAs}
-use Rattle.fifos.specs.Laws.{held-is, lost-is, some-is, none-is}
+use Rattle.fifos.specs.Bridge.{fifosAs, PutOn, putOn, putAs, TakenOff, takenOff, takenAs}
+use Rattle.fifos.specs.Laws.{kept-is}
 use Rattle.interrupts.specs.declared.Interrupts.{Interrupts}
 use Rattle.interrupts.specs.Bridge.{interruptsAs, raisedBoth}
 use Rattle.card.specs.declared.Card.{Card}
 use Rattle.card.specs.Bridge.{stateAs, Effected}
-use Rattle.card.specs.Laws.{fifos-is, interrupts-is, raised-both, by-effect, Gives, unchanged}
+use Rattle.card.specs.Laws.{fifos-is, interrupts-is, raised-both}
 
 pub puts-local : (s : ℕ) → (eqb s 0 || eqb s 3) ≡ true → putter s ≡ local
 puts-local zero h = refl
@@ -49,29 +49,31 @@ pub put-stores : (side : Side) (i : ℕ) (l : List ℕ) (v : ℕ) → putInto si
 put-stores side i l v = if-case (λ (e : Effect). e .store ≡ nothing) (ltb (length l) 32) _ _ (λ _. refl) (λ _. refl)
 
 module _ (c : Card) (i : ℕ) where
-  pub put-held : (side : Side) (v : ℕ) (p : Put) (d : Card) → putAs p ≡ putOn i v (fifosAs (c .fifos)) → p .held ≡ true →
-      stateAs d ≡ withFifos (fifosAs (p .fifos)) (stateAs c) → Effected (putInto side i (entriesOf (stateAs c .fifos) i) v) c (record { card = d; answer = Done 0 1 })
-  put-held side v p d e h s =
-      let k = held-is i v (fifosAs (c .fifos)) (putAs p) e h in
-      by-effect (Gives c _) _ (done 0 1 (pushed i v ∷ [])) (rw (fifos-is c, k .0))
-      (record { answer = refl; state = s ∙ ap (λ f. withFifos f (stateAs c)) (k .1 ∙ ap (pushedOn i v) (sym (fifos-is c))) })
+  -- what the FIFOs' put promises, of the FIFOs as the definition has them, and whether there was room
+  put-is : (v : ℕ) (p : Put) (b : Bool) → putAs p ≡ putOn i v (fifosAs (c .fifos)) → p .kept ≡ b →
+      (putAs p ≡ putOn i v (stateAs c .fifos)) × (ltb (length (entriesOf (stateAs c .fifos) i)) 32 ≡ b)
+  put-is v p b e h = rw (fifos-is c) (e, sym (ap (λ (r : PutOn). r .kept) e ∙ kept-is i v (fifosAs (c .fifos))) ∙ h)
 
-  pub put-lost : (side : Side) (v : ℕ) (p : Put) (d : Card) (n : ℕ) (j : Interrupts) → putAs p ≡ putOn i v (fifosAs (c .fifos)) → p .held ≡ false →
+  pub put-kept : (side : Side) (v : ℕ) (p : Put) (d : Card) → putAs p ≡ putOn i v (fifosAs (c .fifos)) → p .kept ≡ true →
+      stateAs d ≡ withFifos (fifosAs (p .fifos)) (stateAs c) → Effected (putInto side i (entriesOf (stateAs c .fifos) i) v) c (record { card = d; answer = Done (p .held) 1 })
+  put-kept side v p d e h s =
+      let k = put-is v p true e h in
+      let r : putAs p ≡ record { fifos = pushedOn i v (stateAs c .fifos); held = length (entriesOf (stateAs c .fifos) i) + 1; kept = true } = rw (k .1) at (k .0) in
+      rw (k .1) (record { answer = ap (λ (r : PutOn). Done (r .held) 1) r; state = s ∙ ap (λ (r : PutOn). withFifos (r .fifos) (stateAs c)) r })
+
+  pub put-lost : (side : Side) (v : ℕ) (p : Put) (d : Card) (n : ℕ) (j : Interrupts) → putAs p ≡ putOn i v (fifosAs (c .fifos)) → p .kept ≡ false →
       n ≡ mask (overflow side) → interruptsAs j ≡ raisedBoth n (interruptsAs (c .interrupts)) → stateAs d ≡ withInterrupts (interruptsAs j) (stateAs c) →
-      Effected (putInto side i (entriesOf (stateAs c .fifos) i) v) c (record { card = d; answer = Done 0 0 })
+      Effected (putInto side i (entriesOf (stateAs c .fifos) i) v) c (record { card = d; answer = Done (p .held) 0 })
   put-lost side v p d n j e h m r s =
-      by-effect (Gives c _) _ (done 0 0 (raisedInBoth (overflow side))) (rw (fifos-is c, lost-is i v (fifosAs (c .fifos)) (putAs p) e h))
-      (record { answer = refl; state = s ∙ raised-both (stateAs c) (interruptsAs j) (overflow side) n m (r ∙ ap (raisedBoth n) (sym (interrupts-is c))) })
+      let k = put-is v p false e h in
+      let l : putAs p ≡ record { fifos = stateAs c .fifos; held = 32; kept = false } = rw (k .1) at (k .0) in
+      rw (k .1)
+      (record { answer = ap (λ (r : PutOn). Done (r .held) 0) l; state = s ∙ raised-both (stateAs c) (interruptsAs j) (overflow side) n m (r ∙ ap (raisedBoth n) (sym (interrupts-is c))) })
 
-  pub taken-some : (t : Taken) (d : Card) → takenAs t ≡ takenOff i (fifosAs (c .fifos)) (entriesOf (fifosAs (c .fifos)) i) → t .some ≡ true →
-      stateAs d ≡ withFifos (fifosAs (t .fifos)) (stateAs c) → Effected (takenFrom i (entriesOf (stateAs c .fifos) i)) c (record { card = d; answer = Done (t .entry) 1 })
-  taken-some t d e h s =
-      let k = some-is i (fifosAs (c .fifos)) (takenAs t) (entriesOf (fifosAs (c .fifos)) i) e h in
-      by-effect (Gives c _) _ (done (t .entry) 1 (popped i ∷ [])) (ap (λ f. takenFrom i (entriesOf f i)) (fifos-is c) ∙ ap (takenFrom i) (k .1))
-      (record { answer = refl; state = s ∙ ap (λ f. withFifos f (stateAs c)) (k .0 ∙ ap (poppedFrom i) (sym (fifos-is c))) })
-
-  pub taken-none : (t : Taken) → takenAs t ≡ takenOff i (fifosAs (c .fifos)) (entriesOf (fifosAs (c .fifos)) i) → t .some ≡ false →
-      Effected (takenFrom i (entriesOf (stateAs c .fifos) i)) c (record { card = c; answer = Done (t .entry) 0 })
-  taken-none t e h =
-      let k = none-is i (fifosAs (c .fifos)) (takenAs t) (entriesOf (fifosAs (c .fifos)) i) e h in
-      by-effect (Gives c _) _ (done 4294967295 0 []) (rw (fifos-is c, k .0)) (unchanged 4294967295 0 (t .entry) 0 c (k .1) refl)
+  pub taken : (t : Taken) (d : Card) → takenAs t ≡ takenOff i (fifosAs (c .fifos)) (entriesOf (fifosAs (c .fifos)) i) →
+      stateAs d ≡ withFifos (fifosAs (t .fifos)) (stateAs c) → Effected (takenFrom i (entriesOf (stateAs c .fifos) i)) c (record { card = d; answer = Done (t .entry) (t .held) })
+  taken t d e s = by (entriesOf (stateAs c .fifos) i) (rw (fifos-is c) e)
+    where
+      by : (l : List ℕ) → takenAs t ≡ takenOff i (stateAs c .fifos) l → Effected (takenFrom i l) c (record { card = d; answer = Done (t .entry) (t .held) })
+      by [] k = record { answer = ap (λ (r : TakenOff). Done (r .entry) (r .held)) k; state = s ∙ ap (λ (r : TakenOff). withFifos (r .fifos) (stateAs c)) k }
+      by (x ∷ l) k = record { answer = ap (λ (r : TakenOff). Done (r .entry) (r .held)) k; state = s ∙ ap (λ (r : TakenOff). withFifos (r .fifos) (stateAs c)) k }

@@ -1,4 +1,4 @@
-// Document 01, "FIFOs and flags": take and put, kinds 5 and 6, each with its own checks first.
+// Document 01, "FIFOs and flags", with the answers of document 02, L2: take and put, kinds 5 and 6, each with its own checks first.
 ghost use mathlib.Core.Path.{_≡_};
 ghost use mathlib.Core.List.{List, [], _∷_};
 ghost use Prim.Native.Nat.{ℕ, _<_};
@@ -50,18 +50,15 @@ fn fifo_refusal(q: Access, unused: bool, may: u8) -> u8
 
 // WHAT IS DONE
 
-// "V entry, X 1; if empty V 4,294,967,295, X 0."
+// "V entry", "if empty V 4,294,967,295"; X the entries held before it.
 fn take_entry(card: Card, i: usize) -> Outcome
     requires { ⌜ i < 4 ⌝ }
     ensures { λ r. ⌜ Effected (takenFrom i (entriesOf (stateAs card .fifos) i)) card r ⌝ }
 {
     let fifos = card.fifos;
     let taken = fifos.take(i);
-    if taken.some {
-        let rest = taken.fifos;
-        return card.with_fifos(rest).done(taken.entry, 1);
-    }
-    card.done(taken.entry, 0)
+    let rest = taken.fifos;
+    card.with_fifos(rest).done(taken.entry, taken.held)
 }
 
 // The event of a put that a side loses.
@@ -75,20 +72,20 @@ fn lost_event(side: u8) -> EventSet
     }
 }
 
-// "X 1 held; X 0 lost to overflow", with its event in both registers.
+// V the entries held after it; "X 1 held; X 0 lost to overflow", with its event in both registers.
 fn put_entry(card: Card, side: u8, i: usize, entry: u32) -> Outcome
     requires { ⌜ i < 4 ⌝ }
     ensures { λ r. ⌜ Effected (putInto (sideOf side) i (entriesOf (stateAs card .fifos) i) entry) card r ⌝ }
 {
     let fifos = card.fifos;
     let put = fifos.put(i, entry);
-    if put.held {
+    if put.kept {
         let longer = put.fifos;
-        return card.with_fifos(longer).done(0, 1);
+        return card.with_fifos(longer).done(put.held, 1);
     }
     let interrupts = card.interrupts;
     card.with_interrupts(interrupts.raise_both(lost_event(side)))
-        .done(0, 0)
+        .done(put.held, 0)
 }
 
 // KINDS

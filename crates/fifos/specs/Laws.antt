@@ -1,6 +1,6 @@
 -- Laws of the entries held: their number, what a store at the end and a shift make of them; and one of the four FIFOs read and replaced.
-use mathlib.Core.Path.{_≡_, refl, ap, sym, _∙_}
-use mathlib.Core.Bool.{Bool, true, false}
+use mathlib.Core.Path.{_≡_, refl, sym, _∙_}
+use mathlib.Core.Bool.{true, false}
 use mathlib.Core.List.{List, [], _∷_, _++_, append-assoc, map}
 use Prim.Native.Nat.{ℕ, zero, suc, _+_, _<_, _≤_}
 use native.Mathlib.Omega.{arith}
@@ -10,13 +10,12 @@ use lib.ListN.{length, getD, set, take, drop, replicate, length-set, length-drop
 use lib.Seq.{length-take-le, take-append-le, take-suc, take-suc-set, take-all, getD-drop, set-split}
 use lib.Dec.{ltb}
 use borrow.Author.Tests.{lt-ltb, le-ltb}
-use Rattle.model.specs.Choice.{if_then_else_}
 use Rattle.model.specs.Fifos as model
-use Rattle.model.specs.Fifos.{entriesOf, pushedOn, poppedFrom}
-use Rattle.model.specs.TestLaws.{no-both}
+use Rattle.model.specs.Fifos.{entriesOf, poppedFrom}
+use Rattle.model.specs.TestLaws.{if-case}
 use Rattle.model.specs.FourLaws.{map-set}
 use Rattle.fifos.specs.declared.Fifo.{Fifo}
-use Rattle.fifos.specs.Bridge.{entriesAs, PutOn, putOn, TakenOff, takenOff}
+use Rattle.fifos.specs.Bridge.{entriesAs, PutOn, putOn, takenOff}
 
 pub length-entries : (f : Fifo) → length (entriesAs f) ≡ f .count
 unfolding entriesAs
@@ -67,52 +66,33 @@ module _ (each : List Fifo) (i : ℕ) where
   unfolding entriesAs
   entries-at = List·getD-map entriesAs each i noFifo
 
-  pub put-held : (v : ℕ) (r : Fifo) → getD each i noFifo .count < 32 → entriesAs r ≡ entriesAs (getD each i noFifo) ++ (v ∷ []) →
-      record { fifos = map entriesAs (set each i r); held = true } ≡ putOn i v (map entriesAs each)
-  put-held v r h e = rw (entries-at, length-entries (getD each i noFifo), lt-ltb _ 32 h, map-set entriesAs each i r, e)
+  pub put-kept : (v : ℕ) (r : Fifo) → getD each i noFifo .count < 32 → entriesAs r ≡ entriesAs (getD each i noFifo) ++ (v ∷ []) →
+      record { fifos = map entriesAs (set each i r); held = getD each i noFifo .count + 1; kept = true } ≡ putOn i v (map entriesAs each)
+  put-kept v r h e = rw (entries-at, length-entries (getD each i noFifo), lt-ltb _ 32 h, map-set entriesAs each i r, e)
 
-  pub put-lost : (v : ℕ) → 32 ≤ getD each i noFifo .count → record { fifos = map entriesAs each; held = false } ≡ putOn i v (map entriesAs each)
+  pub put-lost : (v : ℕ) → 32 ≤ getD each i noFifo .count → record { fifos = map entriesAs each; held = 32; kept = false } ≡ putOn i v (map entriesAs each)
   put-lost v h = rw (entries-at, length-entries (getD each i noFifo), le-ltb _ 32 h)
 
   pub taken-none : getD each i noFifo .count ≡ 0 →
-      record { fifos = map entriesAs each; entry = 4294967295; some = false } ≡ takenOff i (map entriesAs each) (entriesOf (map entriesAs each) i)
+      record { fifos = map entriesAs each; entry = 4294967295; held = 0 } ≡ takenOff i (map entriesAs each) (entriesOf (map entriesAs each) i)
   taken-none h = rw (entries-at) (by (entriesAs (getD each i noFifo)) (length-entries (getD each i noFifo) ∙ h))
     where
-      by : (l : List ℕ) → length l ≡ 0 → record { fifos = map entriesAs each; entry = 4294967295; some = false } ≡ takenOff i (map entriesAs each) l
+      by : (l : List ℕ) → length l ≡ 0 → record { fifos = map entriesAs each; entry = 4294967295; held = 0 } ≡ takenOff i (map entriesAs each) l
       by [] k = refl
       by (x ∷ l) k = absurd (omega arith)
 
   pub taken-some : (oldest : ℕ) (r : Fifo) → entriesAs (getD each i noFifo) ≡ oldest ∷ drop 1 (entriesAs (getD each i noFifo)) →
       entriesAs r ≡ drop 1 (entriesAs (getD each i noFifo)) →
-      record { fifos = map entriesAs (set each i r); entry = oldest; some = true } ≡ takenOff i (map entriesAs each) (entriesOf (map entriesAs each) i)
-  taken-some oldest r e k = rw (map-set entriesAs each i r, k, ← entries-at) (by (entriesOf (map entriesAs each) i) (entries-at ∙ e))
+      record { fifos = map entriesAs (set each i r); entry = oldest; held = getD each i noFifo .count } ≡ takenOff i (map entriesAs each) (entriesOf (map entriesAs each) i)
+  taken-some oldest r e k =
+      rw (map-set entriesAs each i r, k, ← length-entries (getD each i noFifo), ← entries-at) (by (entriesOf (map entriesAs each) i) (entries-at ∙ e))
     where
       by : (l : List ℕ) → l ≡ oldest ∷ drop 1 (entriesAs (getD each i noFifo)) →
-          record { fifos = poppedFrom i (map entriesAs each); entry = oldest; some = true } ≡ takenOff i (map entriesAs each) l
+          record { fifos = poppedFrom i (map entriesAs each); entry = oldest; held = length l } ≡ takenOff i (map entriesAs each) l
       by l h = rw h
 
 -- WHAT A CALLER LEARNS
 
-module _ (i v : ℕ) (fs : model.Fifos) (p : PutOn) (e : p ≡ putOn i v fs) where
-  pub held-is : p .held ≡ true → (ltb (length (entriesOf fs i)) 32 ≡ true) × (p .fifos ≡ pushedOn i v fs)
-  held-is h = by (ltb (length (entriesOf fs i)) 32) e
-    where
-      by : (b : Bool) → p ≡ (if b then record { fifos = pushedOn i v fs; held = true } else record { fifos = fs; held = false }) → (b ≡ true) × (p .fifos ≡ pushedOn i v fs)
-      by true q = (refl, ap (λ (x : PutOn). x .fifos) q)
-      by false q = no-both (sym (ap (λ (x : PutOn). x .held) q) ∙ h)
-
-  pub lost-is : p .held ≡ false → ltb (length (entriesOf fs i)) 32 ≡ false
-  lost-is h = by (ltb (length (entriesOf fs i)) 32) e
-    where
-      by : (b : Bool) → p ≡ (if b then record { fifos = pushedOn i v fs; held = true } else record { fifos = fs; held = false }) → b ≡ false
-      by true q = no-both (sym h ∙ ap (λ (x : PutOn). x .held) q)
-      by false q = refl
-
-module _ (i : ℕ) (fs : model.Fifos) (p : TakenOff) where
-  pub some-is : (l : List ℕ) → p ≡ takenOff i fs l → p .some ≡ true → (p .fifos ≡ poppedFrom i fs) × (l ≡ p .entry ∷ drop 1 l)
-  some-is [] e h = no-both (sym (ap (λ (x : TakenOff). x .some) e) ∙ h)
-  some-is (x ∷ l) e h = (ap (λ (x : TakenOff). x .fifos) e, rw e)
-
-  pub none-is : (l : List ℕ) → p ≡ takenOff i fs l → p .some ≡ false → (l ≡ []) × (p .entry ≡ 4294967295)
-  none-is [] e h = (refl, ap (λ (x : TakenOff). x .entry) e)
-  none-is (x ∷ l) e h = no-both (sym h ∙ ap (λ (x : TakenOff). x .some) e)
+-- an entry is kept exactly where there is room
+pub kept-is : (i v : ℕ) (fs : model.Fifos) → putOn i v fs .kept ≡ ltb (length (entriesOf fs i)) 32
+kept-is i v fs = if-case (λ (p : PutOn). p .kept ≡ ltb (length (entriesOf fs i)) 32) (ltb (length (entriesOf fs i)) 32) _ _ (λ h. sym h) (λ h. sym h)

@@ -17,17 +17,18 @@ pub struct Fifos {
     pub each: [Fifo; 4],
 }
 
-// What a put gives: the FIFOs, and whether the entry is held.
+// What a put gives: the FIFOs, how many entries the one holds after it, 32 where it was full, and whether the entry was kept.
 pub struct Put {
     pub fifos: Fifos,
-    pub held: bool,
+    pub held: u32,
+    pub kept: bool,
 }
 
-// What a take gives: the FIFOs, and the oldest entry if there was one.
+// What a take gives: the FIFOs, the oldest entry if there was one, and how many the one held before it.
 pub struct Taken {
     pub fifos: Fifos,
     pub entry: u32,
-    pub some: bool,
+    pub held: u32,
 }
 
 const ROOM: u32 = 32;
@@ -130,12 +131,14 @@ impl Fifos {
             each[i] = fifo.with(entry);
             return Put {
                 fifos: Fifos { each: each },
-                held: true,
+                held: fifo.count + 1,
+                kept: true,
             };
         }
         Put {
             fifos: self,
-            held: false,
+            held: ROOM,
+            kept: false,
         }
     }
 
@@ -150,15 +153,16 @@ impl Fifos {
             return Taken {
                 fifos: self,
                 entry: NO_ENTRY,
-                some: false,
+                held: 0,
             };
         }
-        each[i] = fifo.rest();
+        let rest = fifo.rest();
+        each[i] = rest;
         let entry = fifo.oldest();
         Taken {
             fifos: Fifos { each: each },
             entry: entry,
-            some: true,
+            held: fifo.count,
         }
     }
 }

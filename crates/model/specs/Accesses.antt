@@ -123,13 +123,13 @@ row windowWrite w side s a b c =
     ∷ 5 for notBy host side
     ∷ 9 for outsideWindow (w .card .settings) a 4 ∷ []
     ⇒ done 0 0 [] storing toWindow (a - w .card .settings .base) s b
--- 5 take | S FIFO | V entry, X 1; if empty V 4,294,967,295, X 0
+-- 5 take | S FIFO | V entry, X entries held before it (L2); if empty V 4,294,967,295, X 0
 row take w side s a b c =
     3 for nonzero (a ∷ b ∷ c ∷ [])
     ∷ 4 for above 3 s
     ∷ 5 for notBy (taker s) side ∷ []
     ⇒ takenFrom s (entriesOf (w .card .fifos) s)
--- 6 put | S FIFO, B entry | X 1 held; X 0 lost to overflow
+-- 6 put | S FIFO, B entry | V entries held after it (L2), X 1 held; V 32 (L2), X 0 lost to overflow
 row put w side s a b c =
     3 for nonzero (a ∷ c ∷ [])
     ∷ 4 for above 3 s

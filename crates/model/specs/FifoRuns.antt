@@ -1,15 +1,16 @@
 -- Document 01, "FIFOs and flags": "Entries come out once each, in order. Accepted puts since the last reset equal successful takes plus entries held."
+-- Document 02, L2: the answers tell the depth.
 -- One access: what a FIFO held and what is put into it are what is taken out of it and what it holds then. Along a list this adds up.
 use mathlib.Core.Path.{_≡_, refl, ap, sym, subst, _∙_}
 use mathlib.Core.Logic.{_≢_}
 use mathlib.Core.Bool.{Bool, true, false, not, _&&_}
 use mathlib.Core.List.{List, [], _∷_, _++_, append-assoc, append-nil}
-use Prim.Native.Nat.{ℕ, zero, suc, _+_, _/_, _%_, _<_}
+use Prim.Native.Nat.{ℕ, zero, suc, _+_, _-_, _/_, _%_, _<_, _≤_}
 use native.Mathlib.Omega.{arith}
 use lib.ListN.{length, getD, set, drop, replicate, length-append}
 use lib.Seq.{getD-set-same, getD-set-other}
 use lib.Dec.{eqb, ltb, eqb·suc-zero}
-use borrow.Author.Tests.{eqb-true, eqb-false, ltb-false}
+use borrow.Author.Tests.{eqb-true, eqb-false, ltb-true, ltb-false}
 use Rattle.model.specs.Choice.{if_then_else_, every}
 use Rattle.model.specs.Checks.{refusal, above}
 use Rattle.model.specs.Sides.{sideOf, other}
@@ -28,7 +29,7 @@ use Rattle.model.specs.TestLaws.{and-left, and-right, or-left, if-case}
 use Rattle.model.specs.CheckLaws.{Pass}
 use Rattle.model.specs.KindLaws.{number-at}
 use Rattle.model.specs.Refusals.{number-is, checks-passed, done-is, refused-is}
-use Rattle.model.specs.Soundness.{sound-parts, fit-parts, done-fit}
+use Rattle.model.specs.Soundness.{sound-parts, fit-parts, done-fit, fifo-sound}
 
 -- WHAT IS SAID
 
@@ -36,9 +37,9 @@ use Rattle.model.specs.Soundness.{sound-parts, fit-parts, done-fit}
 abbrev pub isDone : (kind : ℕ) → Entry Access Answer → Bool
 isDone k e = eqb (e .answer .number) 0 && eqb (e .access .kind) k
 
--- the same at this FIFO, with X 1: an accepted put, a successful take
+-- the same at this FIFO, with X not 0: an accepted put, a successful take
 abbrev pub succeeds : (kind fifo : ℕ) → Entry Access Answer → Bool
-succeeds k i e = isDone k e && eqb (e .answer .x) 1 && eqb (e .access .s) i
+succeeds k i e = isDone k e && not (eqb (e .answer .x) 0) && eqb (e .access .s) i
 
 -- no done reset (kind 0) is among them
 abbrev pub noReset : List (Entry Access Answer) → Bool
@@ -59,7 +60,56 @@ abbrev pub takenOut : (fifo : ℕ) → List (Entry Access Answer) → List ℕ
 takenOut i [] = []
 takenOut i (e ∷ es) = if succeeds (numberOf Kind.take) i e then e .answer .v ∷ takenOut i es else takenOut i es
 
+-- the depth of a FIFO behind a list: accepted puts less successful takes since the last reset
+abbrev pub depth : (fifo : ℕ) → List (Entry Access Answer) → ℕ
+depth i es = length (accepted i (sinceReset es)) - length (takenOut i (sinceReset es))
+
+-- What an answer tells of the depth of its FIFO, `before` the access and `after` it.
+-- "V of a put is the number of entries held after it, 1 to 32; a lost put answers V 32, X 0": it is lost where 32 are held, and else X is 1.
+abbrev pub PutTells : (before after : ℕ) → Answer → Type 0
+PutTells before after r = (r .v ≡ after) × (0 < r .v) × (r .v ≤ 32) × (r .x ≡ (if ltb before 32 then 1 else 0))
+
+-- "A take answers in X the entries held before it, so X 0 still means empty and X 1 means that was the last." (Here 0 - 1 is 0.)
+abbrev pub TakeTells : (before after : ℕ) → Answer → Type 0
+TakeTells before after r = (r .x ≡ before) × (r .x - 1 ≡ after)
+
 -- ONE ACCESS
+
+-- a done access of a kind
+done-of : (w : World) (q : Access) (k : ℕ) → isDone k (entryAt access w q) ≡ true → (refusal (checks w q) ≡ 0) × (q .kind ≡ k)
+done-of w q k h = (sym (number-is w q) ∙ eqb-true _ 0 (and-left _ _ h), eqb-true (q .kind) k (and-right (eqb (access w q .answer .number) 0) _ h))
+
+-- a done take or put names one of the four
+one-of-four : (w : World) (q : Access) (n : ℕ) → refusal (checks w q) ≡ 0 → q .kind ≡ n → (Pass (rowOf (kindOf n) w q .checks) → above 3 (q .s) ≡ false) → q .s < length (w .card .fifos)
+one-of-four w q n h k check =
+    let four : length (w .card .fifos) ≡ 4 = eqb-true _ 4 (and-left _ _ (sound-parts (w .card) (fit-parts w (done-fit w q h) .sound) .fifos)) in
+    omega (arith, four, ltb-false 3 (q .s) (check (subst (λ n. Pass (rowOf (kindOf n) w q .checks)) k (checks-passed w q h .1 .1))))
+
+-- In any world a done put and a done take tell the entries held.
+pub put-tells : (w : World) (q : Access) → isDone (numberOf Kind.put) (entryAt access w q) ≡ true →
+    PutTells (length (entriesOf (w .card .fifos) (q .s))) (length (entriesOf (access w q .world .card .fifos) (q .s))) (access w q .answer)
+put-tells w q h =
+    let d = done-of w q (numberOf Kind.put) h in
+    let fs = w .card .fifos in
+    let held = entriesOf fs (q .s) in
+    let room = one-of-four w q (numberOf Kind.put) (d .0) (d .1) (λ c. c .1 .0) in
+    let most = fifo-sound fs (q .s) (sound-parts (w .card) (fit-parts w (done-fit w q (d .0)) .sound) .fifos) in
+    rw (done-is w q (d .0), d .1)
+    (if-case (λ (f : Effect). PutTells (length held) (length (entriesOf (worldAfter f w .card .fifos) (q .s))) (settled 0 f w .answer)) (ltb (length held) 32) _ _
+    (λ k. (rw (getD-set-same fs (q .s) (held ++ (q .b ∷ [])) [] room, length-append), omega arith, omega (arith, ltb-true (length held) 32 k), rw k))
+    (λ k. (omega (arith, most, ltb-false (length held) 32 k), omega arith, omega arith, rw k)))
+
+pub take-tells : (w : World) (q : Access) → isDone (numberOf Kind.take) (entryAt access w q) ≡ true →
+    TakeTells (length (entriesOf (w .card .fifos) (q .s))) (length (entriesOf (access w q .world .card .fifos) (q .s))) (access w q .answer)
+take-tells w q h =
+    let d = done-of w q (numberOf Kind.take) h in
+    rw (done-is w q (d .0), d .1) (by (entriesOf (w .card .fifos) (q .s)) refl (one-of-four w q (numberOf Kind.take) (d .0) (d .1) (λ c. c .1 .0)))
+  where
+    by : (entries : List ℕ) → entriesOf (w .card .fifos) (q .s) ≡ entries → q .s < length (w .card .fifos) →
+        let f = takenFrom (q .s) entries in
+        TakeTells (length entries) (length (entriesOf (worldAfter f w .card .fifos) (q .s))) (settled 0 f w .answer)
+    by [] e room = (refl, rw e)
+    by (oldest ∷ rest) e room = (refl, rw (getD-set-same (w .card .fifos) (q .s) (drop 1 (entriesOf (w .card .fifos) (q .s))) [] room, e) (omega arith))
 
 abbrev Keeps : State → List Change → Type 0
 Keeps s cs = applyAll cs s .fifos ≡ s .fifos
@@ -128,7 +178,7 @@ module _ (w : World) (q : Access) (i : ℕ) where
 
       by : (entries : List ℕ) → entriesOf (w .card .fifos) (q .s) ≡ entries → DoneWith (takenFrom (q .s) entries)
       by [] e = rw k (append-nil _)
-      by (oldest ∷ rest) e = rw (k, replaced (w .card .fifos) (q .s) i (drop 1 (entriesOf (w .card .fifos) (q .s))) h) (out oldest rest (eqb (q .s) i) e refl)
+      by (oldest ∷ rest) e = rw (k, replaced (w .card .fifos) (q .s) i (drop 1 (entriesOf (w .card .fifos) (q .s))) h, eqb·suc-zero (length rest)) (out oldest rest (eqb (q .s) i) e refl)
 
   other-accounted : eqb (q .kind) (numberOf Kind.take) ≡ false → eqb (q .kind) (numberOf Kind.put) ≡ false → (f : Effect) → Keeps (w .card) (f .changes) → DoneWith f
   other-accounted t p f h = rw (t, p, h) (append-nil _)
@@ -143,19 +193,13 @@ module _ (w : World) (q : Access) (i : ℕ) where
       number : numberOf (kindOf (q .kind)) ≡ q .kind
       number = let l = ltb-false 16 (q .kind) (or-left (above 16 (q .kind)) (above 1 (q .side)) (passes .1 .0)) in let n = number-at (q .kind) (kindOf (q .kind)) refl in omega arith
 
-      four : length (w .card .fifos) ≡ 4
-      four = eqb-true _ 4 (and-left _ _ (sound-parts (w .card) (fit-parts w (done-fit w q h) .sound) .fifos))
-
-      room : (n : ℕ) → q .kind ≡ n → (Pass (rowOf (kindOf n) w q .checks) → above 3 (q .s) ≡ false) → q .s < length (w .card .fifos)
-      room n k check = omega (arith, four, ltb-false 3 (q .s) (check (subst (λ n. Pass (rowOf (kindOf n) w q .checks)) k (passes .1 .1))))
-
       by : (t p : Bool) → eqb (q .kind) (numberOf Kind.take) ≡ t → eqb (q .kind) (numberOf Kind.put) ≡ p → DoneWith (rowOf (kindOf (q .kind)) w q .effect)
       by true p e f =
           let k = eqb-true (q .kind) (numberOf Kind.take) e in
-          subst (λ n. DoneWith (rowOf (kindOf n) w q .effect)) (sym k) (take-accounted k (room (numberOf Kind.take) k (λ c. c .1 .0)))
+          subst (λ n. DoneWith (rowOf (kindOf n) w q .effect)) (sym k) (take-accounted k (one-of-four w q (numberOf Kind.take) h k (λ c. c .1 .0)))
       by false true e f =
           let k = eqb-true (q .kind) (numberOf Kind.put) f in
-          subst (λ n. DoneWith (rowOf (kindOf n) w q .effect)) (sym k) (put-accounted k (room (numberOf Kind.put) k (λ c. c .1 .0)))
+          subst (λ n. DoneWith (rowOf (kindOf n) w q .effect)) (sym k) (put-accounted k (one-of-four w q (numberOf Kind.put) h k (λ c. c .1 .0)))
       by false false e f =
           other-accounted e f (rowOf (kindOf (q .kind)) w q .effect)
           (other-keeps (kindOf (q .kind)) (rw number (eqb-false (q .kind) (numberOf Kind.reset) r)) (rw number (eqb-false (q .kind) (numberOf Kind.take) e)) (rw number (eqb-false (q .kind) (numberOf Kind.put) f)) w q)
@@ -174,8 +218,8 @@ all-empty (suc n) (suc i) = all-empty n i
 
 reset-empties : (w : World) (q : Access) (i : ℕ) → isDone (numberOf Kind.reset) (entryAt access w q) ≡ true → entriesOf (access w q .world .card .fifos) i ≡ []
 reset-empties w q i h =
-    let n : refusal (checks w q) ≡ 0 = sym (number-is w q) ∙ eqb-true _ 0 (and-left _ _ h) in
-    rw (done-is w q n, eqb-true (q .kind) (numberOf Kind.reset) (and-right (eqb (access w q .answer .number) 0) _ h)) (all-empty 4 i)
+    let d = done-of w q (numberOf Kind.reset) h in
+    rw (done-is w q (d .0), d .1) (all-empty 4 i)
 
 -- A LIST OF ACCESSES
 
@@ -239,3 +283,30 @@ pub fifo-counts : (settings : Settings) (shared window : List ℕ) (accesses : L
 fifo-counts settings shared window accesses i =
     let ran = run access (freshWorld settings shared window) accesses in
     ap length (fifo-accounts settings shared window accesses i) ∙ length-append (takenOut i (sinceReset (ran .entries))) (entriesOf (ran .world .card .fifos) i)
+
+-- an access behind a list
+run-behind : (w : World) (accesses : List Access) (q : Access) →
+    let ran = run access w accesses in
+    run access w (accesses ++ (q ∷ [])) ≡ record { entries = ran .entries ++ (entryAt access (ran .world) q ∷ []); world = access (ran .world) q .world }
+run-behind w [] q = refl
+run-behind w (a ∷ accesses) q = rw (run-behind (access w a .world) accesses q)
+
+-- The depth behind any list is the number of entries held.
+pub depth-held : (settings : Settings) (shared window : List ℕ) (accesses : List Access) (i : ℕ) →
+    let ran = run access (freshWorld settings shared window) accesses in
+    depth i (ran .entries) ≡ length (entriesOf (ran .world .card .fifos) i)
+depth-held settings shared window accesses i = let c = fifo-counts settings shared window accesses i in omega arith
+
+-- "so that operators see the depth": behind any list a put and a take tell it.
+pub depth-told : (settings : Settings) (shared window : List ℕ) (accesses : List Access) (q : Access) →
+    let ran = run access (freshWorld settings shared window) accesses in
+    let e = entryAt access (ran .world) q in
+    let before = depth (q .s) (ran .entries) in
+    let after = depth (q .s) (ran .entries ++ (e ∷ [])) in
+    (isDone (numberOf Kind.put) e ≡ true → PutTells before after (e .answer)) × (isDone (numberOf Kind.take) e ≡ true → TakeTells before after (e .answer))
+depth-told settings shared window accesses q =
+    let w = freshWorld settings shared window in
+    let ran = run access w accesses in
+    let before = depth-held settings shared window accesses (q .s) in
+    let after = rw (run-behind w accesses q) at (depth-held settings shared window (accesses ++ (q ∷ [])) (q .s)) in
+    rw (before, after) (put-tells (ran .world) q, take-tells (ran .world) q)

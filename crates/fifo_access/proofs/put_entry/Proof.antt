@@ -1,6 +1,6 @@
 -- `fifo_access::put_entry` meets its contract: kept where there is room, else the overflow is raised in both registers.
 use Rattle.model.specs.Sides.{sideOf}
-use Rattle.fifo_access.specs.Laws.{put-held, put-lost}
+use Rattle.fifo_access.specs.Laws.{put-kept, put-lost}
 use borrow.Author.Needs.{needs}
 use Rattle.fifo_access.proofs.put_entry.Statement.{statement}
 use Rattle.fifo_access.proofs.put_entry.Tie as tie
@@ -11,7 +11,7 @@ returns c =
     let e = w .before .before in
     let p = e .before in
     let a = p .before .before .args in
-    rw (c .done .ensures) (put-held (a .card) (a .i) (sideOf (a .side)) (a .entry) (p .put .result) _ (p .put .ensures) (e .if1 .taken) (w .with-fifos .ensures))
+    rw (c .done .ensures) (put-kept (a .card) (a .i) (sideOf (a .side)) (a .entry) (p .put .result) _ (p .put .ensures) (e .if1 .taken) (w .with-fifos .ensures))
 
 returns-2 : tie.Need-returns-2
 returns-2 c =

@@ -3,7 +3,6 @@ use mathlib.Core.Path.{_≡_, sym, _∙_}
 use mathlib.Core.List.{[]}
 use borrow.Author.Tests.{ltb-false}
 use Rattle.model.specs.Checks.{refusal}
-use Rattle.model.specs.Sides.{sideOf}
 use Rattle.model.specs.Fifos.{entriesOf}
 use Rattle.model.specs.Accesses as model
 use Rattle.model.specs.Accesses.{rowOf}

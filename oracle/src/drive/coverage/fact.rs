@@ -94,9 +94,11 @@ pub enum Flag {
 /// What happens to a FIFO.
 #[derive(Clone, Copy, Debug, PartialEq, Eq, PartialOrd, Ord)]
 pub enum Fifo {
-    Put,
+    /// A put that is kept, and V: the entries held after it.
+    Put(u32),
     Overflow,
-    Take,
+    /// A take of an entry, and X: the entries held before it.
+    Take(u32),
     TakeEmpty,
     WrongSidedPut,
     WrongSidedTake,

@@ -36,10 +36,10 @@ impl History {
         let Observed { access, answer, .. } = observed;
         let fifo = usize::from(access.s);
         let what = match (access.kind, answer.number, answer.x) {
-            (kind::PUT, 0, 1) => Fifo::Put,
-            (kind::PUT, 0, _) => Fifo::Overflow,
-            (kind::TAKE, 0, 1) => Fifo::Take,
-            (kind::TAKE, 0, _) => Fifo::TakeEmpty,
+            (kind::PUT, 0, 0) => Fifo::Overflow,
+            (kind::PUT, 0, _) => Fifo::Put(answer.v),
+            (kind::TAKE, 0, 0) => Fifo::TakeEmpty,
+            (kind::TAKE, 0, x) => Fifo::Take(x),
             (kind::PUT, 5, _) => Fifo::WrongSidedPut,
             (kind::TAKE, 5, _) => Fifo::WrongSidedTake,
             _ => return,
@@ -47,11 +47,12 @@ impl History {
         facts.push(Fact::Fifo { fifo, what });
         let held = observed.after.card.fifos[fifo].len();
         self.was_full[fifo] |= held == FIFO_DEPTH;
-        if what == Fifo::Take && answer.v == u32::MAX {
+        let is_take = matches!(what, Fifo::Take(_));
+        if is_take && answer.v == u32::MAX {
             let what = Fifo::TakeOfEmptyAnswer;
             facts.push(Fact::Fifo { fifo, what });
         }
-        if what == Fifo::Take && held == 0 && self.was_full[fifo] {
+        if is_take && held == 0 && self.was_full[fifo] {
             let what = Fifo::DrainedFromFull;
             facts.push(Fact::Fifo { fifo, what });
         }

@@ -1,7 +1,7 @@
 //! What the lists must reach between them.
 
 use crate::access::kind;
-use crate::card::FIFOS;
+use crate::card::{FIFOS, FIFO_DEPTH};
 use crate::interrupts::event;
 use crate::refusal::LAST_KIND;
 
@@ -20,6 +20,9 @@ pub const EVENTS: [u32; 9] = [
     event::MASTER_ABORT,
 ];
 
+/// The entries of a full FIFO.
+const FULL: u32 = FIFO_DEPTH as u32;
+
 /// Every fact that the lists must reach.
 pub fn facts() -> Vec<Fact> {
     let mut facts = Vec::new();
@@ -31,8 +34,8 @@ pub fn facts() -> Vec<Fact> {
     facts
 }
 
-/// What a fresh card with the replay's settings can reach of it, and accesses to the range of a
-/// running transfer and beside it.
+/// What a fresh card with the replay's settings can reach of it, accesses to the range of a running
+/// transfer and beside it, and every V of a put.
 pub fn of_replay() -> Vec<Fact> {
     let mut facts = facts();
     facts.retain(|fact| !beyond_replay(fact));
@@ -45,6 +48,10 @@ pub fn of_replay() -> Vec<Fact> {
                 near,
             }));
         }
+    }
+    for fifo in 0..FIFOS {
+        let puts = (1..=FULL).map(Fifo::Put);
+        facts.extend(puts.map(|what| Fact::Fifo { fifo, what }));
     }
     facts
 }
@@ -141,15 +148,18 @@ fn registers(facts: &mut Vec<Fact>) {
     }
     for fifo in 0..FIFOS {
         let all = [
-            Fifo::Put,
+            Fifo::Put(1),
+            Fifo::Put(FULL - 1),
+            Fifo::Put(FULL),
             Fifo::Overflow,
-            Fifo::Take,
             Fifo::TakeEmpty,
             Fifo::WrongSidedPut,
             Fifo::WrongSidedTake,
             Fifo::DrainedFromFull,
             Fifo::TakeOfEmptyAnswer,
         ];
+        let takes = (1..=FULL).map(Fifo::Take);
+        let all = all.into_iter().chain(takes);
         facts.extend(all.map(|what| Fact::Fifo { fifo, what }));
     }
     for side in 0..=1 {
