@@ -1,8 +1,9 @@
 // Local pins to lanes: width mode, pins BE[3:0] and data give the lanes and the dword.
 ghost use mathlib.Core.Path.{_≡_};
 ghost use Prim.Native.Nat.{_≤_};
-ghost use Rattle.model.specs.Pins.{lanes16, lanesOf, decode};
-ghost use Rattle.pins.specs.Bridge.{decodedAs, carriedIn};
+ghost use lib.ListN.{getD};
+ghost use Rattle.model.specs.Pins.{lanes16, motorolaRows, lanesOf, decode};
+ghost use Rattle.pins.specs.Bridge.{decodedAs, oneLane, carriedIn};
 
 // The number is 0, or that of a refusal.
 pub struct Decoded {
@@ -11,28 +12,13 @@ pub struct Decoded {
     pub dword: u32,
 }
 
-// "BE[3:2] is A1 A0 and picks the one lane": a lane mask for each lane.
-const ONE_LANE: [u8; 4] = [0b1110, 0b1101, 0b1011, 0b0111];
-
-// "The sixteen rows of the Motorola style, BE[3:0] from 0000 to 1111."
-const MOTOROLA: [u8; 16] = [
-    0b0011,
-    0b1011,
-    0b1100,
-    0b1110,
-    0b0111,
-    0b1011,
-    0b1101,
-    0b1110,
-    0b0011,
-    0b1011,
-    0b1100,
-    0b1110,
-    0b0011,
-    0b1011,
-    0b1100,
-    0b1110,
-];
+// The lane mask that enables one lane alone: mode 0's, and those that mode 2 is made of.
+fn one_lane(lane: u8) -> u8
+    requires { ⌜ lane ≤ 3 ⌝ }
+    ensures { λ r. ⌜ r ≡ oneLane lane ⌝ }
+{
+    lanes::NO_LANES ^ (1 << lane)
+}
 
 // Mode 1: BE[3] is A1 and picks the upper or the lower two lanes; BE[1:0] are their lane bits.
 fn lanes_16(pins: u8) -> u8
@@ -46,15 +32,31 @@ fn lanes_16(pins: u8) -> u8
     }
 }
 
-// The lane mask of a mode and its pins.
+// Mode 2: BE[3:2] is the size, and BE[1:0] the address, which picks the lane, big end first. Document 02, L3: "an odd address
+// enables one lane, an even one two, unless the size code is 01"; the second is the one below.
+fn lanes_motorola(pins: u8) -> u8
+    requires { ⌜ pins ≤ 15 ⌝ }
+    ensures { λ r. ⌜ r ≡ getD motorolaRows pins 15 ⌝ }
+{
+    let size = pins / 4;
+    let address = pins % 4;
+    let lane = 3 - address;
+    if (address % 2 == 1) | (size == 0b01) {
+        one_lane(lane)
+    } else {
+        one_lane(lane) & one_lane(lane - 1)
+    }
+}
+
+// The lane mask of a mode and its pins. Mode 0: "BE[3:2] is A1 A0 and picks the one lane"; mode 3: "lanes are the pins".
 fn mask(mode: u8, pins: u8) -> u8
     requires { ⌜ (mode ≤ 3) × (pins ≤ 15) ⌝ }
     ensures { λ r. ⌜ r ≡ lanesOf mode pins ⌝ }
 {
     match mode {
-        0 => ONE_LANE[(pins / 4) as usize],
+        0 => one_lane(pins / 4),
         1 => lanes_16(pins),
-        2 => MOTOROLA[pins as usize],
+        2 => lanes_motorola(pins),
         _ => pins,
     }
 }
