@@ -5,13 +5,15 @@ use std::collections::VecDeque;
 
 use crate::access::Access;
 use crate::card::{Card, Mailboxes, Pair, FIFOS, FIFO_DEPTH, PAIRS};
+use crate::dma::Dma;
 use crate::interrupts::{event, Register};
 use crate::rng::Rng;
 use crate::settings::Settings;
 use crate::transfer::{Running, Transfer, SHARED_LENGTH};
 
 /// A sound record with a small window. A further part draws from a generator of its own, or the
-/// stored records behind the first one would change.
+/// stored records behind the first one would change: so the DMA registers are as fresh here, and
+/// `dma` draws them.
 pub fn sound_card(rng: &mut Rng) -> Card {
     let settings = sound_settings(rng);
     Card {
@@ -26,6 +28,22 @@ pub fn sound_card(rng: &mut Rng) -> Card {
         hint: register(rng, event::OF_HOST),
         lint: register(rng, event::OF_LOCAL),
         running: rng.one_in(2).then(|| running(rng, &settings)),
+        dma: Dma::default(),
+    }
+}
+
+/// DMA registers of any bits, those that no register shows too; both sides may own them.
+pub fn dma(rng: &mut Rng) -> Dma {
+    Dma {
+        shared: rng.word(),
+        pci: rng.word(),
+        size: rng.word(),
+        owner: Pair {
+            host: rng.one_in(2),
+            local: rng.one_in(2),
+        },
+        inhibit: rng.one_in(2),
+        outward: rng.one_in(2),
     }
 }
 

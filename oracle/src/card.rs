@@ -2,6 +2,7 @@
 
 use std::collections::VecDeque;
 
+use crate::dma::Dma;
 use crate::interrupts::{event, Register};
 use crate::settings::Settings;
 use crate::transfer::Running;
@@ -46,6 +47,7 @@ pub struct Card {
     pub hint: Register,
     pub lint: Register,
     pub running: Option<Running>,
+    pub dma: Dma,
 }
 
 /// "Failing settings give refusal 1 and the fresh card of all-zero settings."
@@ -68,10 +70,12 @@ impl Card {
             hint: Register::default(),
             lint: Register::default(),
             running: None,
+            dma: Dma::default(),
         }
     }
 
-    /// Kind 0: "registers as fresh; settings and memories stay".
+    /// Kind 0: "registers as fresh; settings and memories stay". The values that program a transfer
+    /// "survive a finished transfer, but not a reset".
     pub fn reset(&mut self) {
         self.fifos.iter_mut().for_each(VecDeque::clear);
         self.pairs.fill(Pair::default());
@@ -79,9 +83,11 @@ impl Card {
         self.hint = Register::default();
         self.lint = Register::default();
         self.running = None;
+        self.dma = Dma::default();
     }
 
-    /// "A card record is sound if ..."; a card has four FIFOs and four pairs.
+    /// "A card record is sound if ..."; a card has four FIFOs and four pairs. Document 02, L4, asks
+    /// nothing of the DMA registers.
     pub fn sound(&self) -> bool {
         self.settings.pass()
             && self.fifos.len() == FIFOS

@@ -3,9 +3,11 @@
 
 pub mod access;
 pub mod arbitrary;
+pub mod call;
 pub mod card;
 pub mod convert;
 mod decimal;
+pub mod dma;
 mod drive;
 pub mod dword;
 mod input;
@@ -14,6 +16,7 @@ pub mod list;
 pub mod pins;
 mod programs;
 pub mod refusal;
+pub mod registers;
 pub mod replay;
 pub mod rng;
 mod seeds;
@@ -25,4 +28,5 @@ pub mod transfer;
 mod vectors;
 pub mod world;
 
+pub use drive::calls::zero_in_registers;
 pub use programs::{long_list, long_trace, FEWEST_RECORDS};

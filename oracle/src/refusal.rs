@@ -102,7 +102,7 @@ impl Card {
     }
 
     /// "record not sound, shared memory not 16,384 bytes, or window not of the set length"
-    fn unfit(&self, shared: &[u8], window: &[u8]) -> bool {
+    pub fn unfit(&self, shared: &[u8], window: &[u8]) -> bool {
         !self.sound()
             || shared.len() != SHARED_LENGTH as usize
             || window.len() != self.settings.length as usize

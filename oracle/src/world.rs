@@ -25,6 +25,11 @@ impl World {
         self.card.access(&mut self.shared, &mut self.window, access)
     }
 
+    /// Cause 1 of any call.
+    pub fn unfit(&self) -> bool {
+        self.card.unfit(&self.shared, &self.window)
+    }
+
     /// Whether the cause of refusal with this number holds, whatever else does.
     pub fn cause(&self, number: u8, access: &Access) -> bool {
         self.card.cause(number, &self.shared, &self.window, access)

@@ -1,11 +1,20 @@
 //! The tables of docs/LESSONS.md are the files of the lessons: the first column is the list of the
-//! trace, the last one what the replay writes of it.
+//! trace, the last one what the replay writes of it. Register accesses are in no trace: a table of
+//! calls is the stored list of that lesson.
 
 mod files;
 
 use std::path::Path;
 
 use files::{entries, stem, text, ROOT};
+use oracle::zero_in_registers;
+
+/// How the header of a table begins.
+const ACCESSES: &str = "| kind side S A B C |";
+const CALLS: &str = "| side offset direction dword |";
+
+/// The first column, and the last.
+type Columns = (Vec<String>, Vec<String>);
 
 fn spans(line: &str) -> Vec<&str> {
     line.split('`').skip(1).step_by(2).collect()
@@ -19,31 +28,45 @@ fn names(document: &str) -> Vec<&str> {
         .collect()
 }
 
-/// What each table shows: a list, and the answers with the last line, which stands below it.
-fn tables(document: &str) -> Vec<(String, String)> {
-    let mut tables: Vec<(String, String)> = Vec::new();
+/// The tables whose header begins so. A row begins with a span.
+fn tables(document: &str, header: &str) -> Vec<Columns> {
+    let mut tables: Vec<Columns> = Vec::new();
+    let mut inside = false;
     for line in document.lines() {
-        if line.starts_with("| kind side S A B C |") {
+        if line.starts_with(header) {
             tables.push(Default::default());
+            inside = true;
         }
-        if let Some((list, answers)) = tables.last_mut() {
-            let spans = spans(line);
-            if line.starts_with("| `") {
-                *list += &format!("{}\n", spans[0]);
-                *answers += &format!("{}\n", spans[spans.len() - 1]);
-            } else if line.starts_with("Then `end ") {
-                *answers += &format!("{}\n", spans[0]);
-            }
+        inside &= line.starts_with('|');
+        let spans = spans(line);
+        if let ([first, .., last], true, Some(table)) = (&spans[..], inside, tables.last_mut()) {
+            table.0.push(first.to_string());
+            table.1.push(last.to_string());
         }
     }
     tables
+}
+
+/// The last lines of the replays, which stand below their tables.
+fn ends(document: &str) -> Vec<&str> {
+    let lines = document.lines();
+    let ends = lines.filter(|line| line.starts_with("Then `end "));
+    ends.map(|line| spans(line)[0]).collect()
+}
+
+fn lines(column: &[String]) -> String {
+    column.iter().map(|line| format!("{line}\n")).collect()
 }
 
 #[test]
 fn the_tables_are_the_lists_and_the_answers() {
     let root = Path::new(ROOT);
     let document = text(&root.join("docs/LESSONS.md"));
-    let (names, tables) = (names(&document), tables(&document));
+    let (names, tables, ends) = (
+        names(&document),
+        tables(&document, ACCESSES),
+        ends(&document),
+    );
     let files = entries(&root.join("lessons")).into_iter();
     let traces = files.filter(|path| path.extension().is_some_and(|end| end == "bin"));
     let traces: Vec<String> = traces.map(|path| stem(&path)).collect();
@@ -51,9 +74,25 @@ fn the_tables_are_the_lists_and_the_answers() {
     sorted.sort();
     assert_eq!(sorted, traces);
     assert_eq!(names.len(), tables.len());
-    for (name, (list, answers)) in names.into_iter().zip(tables) {
+    assert_eq!(names.len(), ends.len());
+    for ((name, (list, answers)), end) in names.into_iter().zip(tables).zip(ends) {
         let file = |end| text(&root.join(format!("lessons/{name}.{end}")));
-        assert_eq!(list, file("list"), "{name}");
-        assert_eq!(answers, file("txt"), "{name}");
+        assert_eq!(lines(&list), file("list"), "{name}");
+        assert_eq!(lines(&answers) + end + "\n", file("txt"), "{name}");
     }
+}
+
+#[test]
+fn the_table_of_calls_is_the_stored_list() {
+    let document = text(&Path::new(ROOT).join("docs/LESSONS.md"));
+    let stored = zero_in_registers();
+    let calls = stored.iter().map(|(call, _)| call.to_string());
+    let answers = stored.iter().map(|(_, answer)| {
+        let [number, v, x] = answer.numbers();
+        format!("{number} {v} {x}")
+    });
+    assert_eq!(
+        tables(&document, CALLS),
+        [(calls.collect(), answers.collect())]
+    );
 }

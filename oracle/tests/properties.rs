@@ -1,5 +1,7 @@
 //! Laws of document 01, and of document 02, L2, on random records and accesses.
 
+mod worlds;
+
 use std::collections::BTreeSet;
 
 use oracle::access::{kind, Access, Answer};
@@ -12,28 +14,9 @@ use oracle::rng::Rng;
 use oracle::source::{source, Memory, Part};
 use oracle::transfer::Transfer;
 use oracle::world::World;
+use worlds::world;
 
 const ROUNDS: usize = 20_000;
-
-/// Random memories of the right lengths around a record, or now and then of wrong ones.
-fn world(rng: &mut Rng, card: Card) -> World {
-    let mut shared = vec![0; 16_384];
-    let mut window = vec![0; card.settings.length.min(1 << 16) as usize];
-    for byte in shared.iter_mut().take(64).chain(window.iter_mut()) {
-        *byte = rng.byte();
-    }
-    if rng.one_in(20) {
-        shared.truncate(16_380);
-    }
-    if rng.one_in(20) {
-        window.push(1);
-    }
-    World {
-        card,
-        shared,
-        window,
-    }
-}
 
 /// A random access, the fields mostly small or near the window.
 fn access(rng: &mut Rng, card: &Card) -> Access {

@@ -5,6 +5,7 @@ ghost use Prim.Native.Nat.{_<_};
 ghost use Rattle.model.specs.Choice.{if_then_else_};
 ghost use Rattle.model.specs.Checks.{refusal, _for_, misplaced, nonzero};
 ghost use Rattle.model.specs.Sides.{sideOf, other, notBy};
+ghost use Rattle.access.specs.Bridge.{accessAs};
 
 // "Kind, side and selector S are bytes; A, B, C, V and X are 32-bit numbers."
 pub struct Access {
@@ -53,6 +54,9 @@ pub const ADDRESS: u8 = 9;
 
 pub const NOT_RUNNING: u8 = 10;
 
+// L4: an offset that is no multiple of 4, or not modelled.
+pub const UNMODELLED: u8 = 11;
+
 // The trace reader's.
 pub const SHORT_RECORD: u8 = 20;
 
@@ -67,6 +71,20 @@ pub const NO_ROOM: u8 = 24;
 
 // The line reader's.
 pub const NO_LINE: u8 = 25;
+
+// An access that does not use C.
+pub fn asked(kind: u8, side: u8, s: u8, a: u32, b: u32) -> Access
+    ensures { λ r. ⌜ accessAs r ≡ record { kind = kind; side = side; s = s; a = a; b = b; c = 0 } ⌝ }
+{
+    Access {
+        kind: kind,
+        side: side,
+        s: s,
+        a: a,
+        b: b,
+        c: 0,
+    }
+}
 
 // The number of the side other than this one.
 pub fn other_side(side: u8) -> u8

@@ -4,10 +4,11 @@ use mathlib.Core.List.{List}
 use Prim.Native.Nat.{ℕ}
 use Rattle.model.specs.State as model
 use Rattle.model.specs.State.{State, World}
+use Rattle.model.specs.Checks.{refusal}
 use Rattle.model.specs.Changes.{applyAll, Store, sharedAfter, windowAfter, Effect}
 use Rattle.model.specs.Runs as runs
 use Rattle.model.specs.Accesses as words
-use Rattle.model.specs.Accesses.{Kind}
+use Rattle.model.specs.Accesses.{Kind, Row, settled}
 use Rattle.model.specs.KindLaws.{does}
 use Rattle.access.specs.declared.Access.{Access}
 use Rattle.access.specs.declared.Answer.the-variants.{Done, Refused}
@@ -18,6 +19,7 @@ use Rattle.arbitration.specs.Bridge.{arbitrationAs}
 use Rattle.mailboxes.specs.Bridge.{mailboxesAs}
 use Rattle.interrupts.specs.Bridge.{interruptsAs}
 use Rattle.transfer.specs.Bridge.{transferAs}
+use Rattle.dma.specs.Bridge.{dmaAs}
 use Rattle.card.specs.declared.Card.{Card}
 use Rattle.card.specs.declared.NewCard.{NewCard}
 use Rattle.card.specs.declared.Outcome.{Outcome}
@@ -30,6 +32,7 @@ stateAs c = record {
   mailboxes = mailboxesAs (c .mailboxes);
   interrupts = interruptsAs (c .interrupts);
   transfer = transferAs (c .transfer);
+  dma = dmaAs (c .dma);
 }
 
 abbrev pub newCardAs : NewCard → model.NewCard
@@ -56,8 +59,14 @@ pub record Stored (effect : Effect) (before : Card) (m w : List ℕ) (r : Outcom
   pub effected : Effected effect before r
   pub memories : MemoriesAfter (effect .store) m w m′ w′
 
--- What the function of a kind promises. From memories m and w to m′ and w′: the outcome is that of the kind, and a refusal hands back the very
--- card. What is done is answered as done.
+-- What a function promises that settles a row: from memories m and w to m′ and w′ the outcome is that of the row, its checks first, and a refusal
+-- hands back the very card. What is done is answered as done.
+pub record Settles (row : Row) (card : Card) (m w : List ℕ) (r : Outcome) (m′ w′ : List ℕ) : Type 0 where
+  pub told : outcomeAs r m′ w′ ≡ settled (refusal (row .checks)) (row .effect) (worldAs card m w)
+  pub kept : (answerAs (r .answer) .number ≡ 0 → ⊥) → r .card ≡ card
+  pub said : r .answer ≡ Refused 0 → ⊥
+
+-- What the function of a kind promises, the same of the kind's row.
 pub record Did (k : Kind) (card : Card) (q : Access) (m w : List ℕ) (r : Outcome) (m′ w′ : List ℕ) : Type 0 where
   pub told : outcomeAs r m′ w′ ≡ does k (worldAs card m w) (accessAs q)
   pub kept : (answerAs (r .answer) .number ≡ 0 → ⊥) → r .card ≡ card

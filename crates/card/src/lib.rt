@@ -2,7 +2,7 @@
 ghost use mathlib.Core.Path.{_≡_};
 ghost use mathlib.Core.List.{List};
 ghost use Prim.Native.Nat.{ℕ};
-ghost use Rattle.model.specs.State.{sound, withFifos, withArbitration, withMailboxes, withInterrupts, withTransfer, fresh, freshCard};
+ghost use Rattle.model.specs.State.{sound, withFifos, withArbitration, withMailboxes, withInterrupts, withTransfer, withDma, fresh, freshCard};
 ghost use Rattle.model.specs.Accesses as model;
 ghost use Rattle.access.specs.declared.Answer.the-variants.{Done, Refused};
 ghost use Rattle.settings.specs.Bridge.{settingsAs};
@@ -11,10 +11,12 @@ ghost use Rattle.arbitration.specs.Bridge.{arbitrationAs};
 ghost use Rattle.mailboxes.specs.Bridge.{mailboxesAs};
 ghost use Rattle.interrupts.specs.Bridge.{interruptsAs};
 ghost use Rattle.transfer.specs.Bridge.{transferAs};
+ghost use Rattle.dma.specs.Bridge.{dmaAs};
 ghost use Rattle.card.specs.Bridge.{stateAs, newCardAs, Did};
 use access::Access;
 use access::Answer;
 use arbitration::Arbitration;
+use dma::Dma;
 use fifos::Fifos;
 use interrupts::Interrupts;
 use mailboxes::Mailboxes;
@@ -28,6 +30,7 @@ pub struct Card {
     pub mailboxes: Mailboxes,
     pub interrupts: Interrupts,
     pub transfer: Transfer,
+    pub dma: Dma,
 }
 
 // What a caller who asks for a card gets: 0 or a refusal, and the card.
@@ -73,6 +76,7 @@ impl Card {
             mailboxes: Mailboxes::fresh(),
             interrupts: Interrupts::fresh(),
             transfer: Transfer::fresh(),
+            dma: Dma::fresh(),
         }
     }
 }
@@ -137,6 +141,7 @@ impl Card {
         let arbitration = self.arbitration;
         let mailboxes = self.mailboxes;
         let interrupts = self.interrupts;
+        let dma = self.dma;
         Card {
             settings: settings,
             fifos: fifos,
@@ -144,7 +149,16 @@ impl Card {
             mailboxes: mailboxes,
             interrupts: interrupts,
             transfer: transfer,
+            dma: dma,
         }
+    }
+
+    pub fn with_dma(self, dma: Dma) -> Card
+        ensures { λ r. ⌜ stateAs r ≡ withDma (dmaAs dma) (stateAs self) ⌝ }
+    {
+        let mut card = self;
+        card.dma = dma;
+        card
     }
 }
 

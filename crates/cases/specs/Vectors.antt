@@ -9,9 +9,12 @@ use Rattle.model.specs.Arbitration.{Pair}
 use Rattle.model.specs.Mailboxes.{Mailboxes}
 use Rattle.model.specs.Interrupts.{Interrupts}
 use Rattle.model.specs.Transfer.{Request, idle}
+use Rattle.model.specs.Dma.{Dma}
 use Rattle.model.specs.State.{State, World, NewCard, sound, freshCard}
 use Rattle.model.specs.Runs.{Entry, run}
 use Rattle.model.specs.Accesses.{Access, Answer, access}
+use Rattle.model.specs.Calls.{call}
+use Rattle.model.specs.Bench.{CallCase}
 use Rattle.model.specs.Source.{Memory, Part, source}
 use Rattle.model.specs.Pins.{Decoded, decode}
 
@@ -30,10 +33,13 @@ interrupts he hs le ls = record { hint = record { enables = he; status = hs }; l
 abbrev pub request : (direction shared pci size : ℕ) → Request
 request d a b c = record { direction = d; shared = a; pci = b; size = c }
 
+abbrev pub dma : (shared pci size : ℕ) → (owner : Pair) → (inhibit outward : Bool) → Dma
+dma a b c owner inhibit outward = record { shared = a; pci = b; size = c; owner = owner; inhibit = inhibit; outward = outward }
+
 -- A card that nobody has used, written out here once more: stored cards are changes of it, each naming the parts that differ.
 abbrev pub untouched : Settings → State
 untouched s =
-    record { settings = s; fifos = [] ∷ [] ∷ [] ∷ [] ∷ []; arbitration = pair false false ∷ pair false false ∷ pair false false ∷ pair false false ∷ []; mailboxes = mail 0 0 false; interrupts = interrupts 0 0 0 0; transfer = idle }
+    record { settings = s; fifos = [] ∷ [] ∷ [] ∷ [] ∷ []; arbitration = pair false false ∷ pair false false ∷ pair false false ∷ pair false false ∷ []; mailboxes = mail 0 0 false; interrupts = interrupts 0 0 0 0; transfer = idle; dma = dma 0 0 0 (pair false false) false false }
 
 abbrev pub world : State → (shared window : List ℕ) → World
 world c shared window = record { card = c; shared = shared; window = window }
@@ -49,6 +55,10 @@ part m offset count = record { memory = m; offset = offset; count = count }
 -- Run from a world, the accesses of the entries get the answers of the entries and leave another world.
 abbrev pub RunAgrees : World → List (Entry Access Answer) → World → Type 0
 RunAgrees w entries last = run access w (map (λ e. e .access) entries) ≡ record { entries = entries; world = last }
+
+-- the same of calls, register accesses among them
+abbrev pub CallsAgree : World → List CallCase → World → Type 0
+CallsAgree w calls last = run call w (map (λ e. e .access) calls) ≡ record { entries = calls; world = last }
 
 -- a source asked for, of zeroed memories of these lengths, and the part expected
 pub record SourceCase : Type 0 where

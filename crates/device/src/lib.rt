@@ -12,7 +12,7 @@ use card::Card;
 use card::Outcome;
 
 // The contrary of cause 1: "record not sound, shared memory not 16,384 bytes, or window not of the set length".
-fn fits(card: Card, shared: usize, window: usize) -> bool
+pub fn fits(card: Card, shared: usize, window: usize) -> bool
     ensures { λ r. ⌜ ((m w : List ℕ) → shared ≡ length m → window ≡ length w → r ≡ fit (worldAs card m w)) ⌝ }
 {
     let sound = card::sound(card);

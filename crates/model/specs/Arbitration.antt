@@ -1,10 +1,10 @@
 -- Document 01, "FIFOs and flags": the four pairs of arbitration flags.
 use mathlib.Core.Bool.{Bool, false, not, _&&_}
-use mathlib.Core.List.{List}
-use Prim.Native.Nat.{ℕ}
+use mathlib.Core.List.{List, [], _∷_}
+use Prim.Native.Nat.{ℕ, _+_, _*_}
 use lib.ListN.{length, getD, set, replicate}
 use lib.Dec.{eqb}
-use Rattle.model.specs.Choice.{every}
+use Rattle.model.specs.Choice.{if_then_else_, every}
 use Rattle.model.specs.Sides.{Side, host, local}
 
 -- "four pairs of arbitration flags": a pair has a flag of each side
@@ -44,3 +44,15 @@ withFlag local b p = record { ofHost = p .ofHost; ofLocal = b }
 
 abbrev pub withFlagOf : Side → (i : ℕ) → Bool → Arbitration → Arbitration
 withFlagOf side i b ps = set ps i (withFlag side b (pairOf ps i))
+
+-- L4, ARBUTIL: bit 25 L3, 24 P3, 17 L2, 16 P2, 9 L1, 8 P1, 1 L0, 0 P0; P is the host's flag, L the local side's (document 000, page 37)
+abbrev pub pairValue : Pair → ℕ
+pairValue p = (if p .ofHost then 1 else 0) + (if p .ofLocal then 2 else 0)
+
+abbrev pub flagsValue : Arbitration → ℕ
+flagsValue [] = 0
+flagsValue (p ∷ ps) = pairValue p + 256 * flagsValue ps
+
+abbrev pub flagBit : Side → (pair : ℕ) → ℕ
+flagBit host k = 8 * k
+flagBit local k = 8 * k + 1

@@ -1,7 +1,7 @@
 -- What a done access may change in the card's record, one thing at a time, and the dword that it may store in a memory.
 -- A change says what happened. What it does not name stays as it is.
 use mathlib.Core.Bool.{Bool}
-use mathlib.Core.List.{List, [], _∷_}
+use mathlib.Core.List.{List, [], _∷_, _++_}
 use Prim.Native.Nat.{ℕ}
 use Rattle.model.specs.Lanes.{writeDword}
 use Rattle.model.specs.Sides.{Side, host, local}
@@ -11,7 +11,8 @@ use Rattle.model.specs.Arbitration.{withFlagOf}
 use Rattle.model.specs.Mailboxes.{withMail}
 use Rattle.model.specs.Interrupts.{onRegister, raisedIn, clearedIn, enablesIn}
 use Rattle.model.specs.Transfer.{Transfer}
-use Rattle.model.specs.State.{State, World, withFifos, withArbitration, withMailboxes, withInterrupts, withTransfer, fresh}
+use Rattle.model.specs.Dma.{Dma}
+use Rattle.model.specs.State.{State, World, withFifos, withArbitration, withMailboxes, withInterrupts, withTransfer, withDma, fresh}
 
 pub data Change : Type 0 where
   -- every register as in a fresh card
@@ -29,6 +30,8 @@ pub data Change : Type 0 where
   enablesAre : Side → (enables : ℕ) → Change
   -- the transfer begun, moved on or ended
   transferIs : Transfer → Change
+  -- the DMA registers written
+  dmaIs : Dma → Change
 
 -- THE RECORD AFTERWARDS
 
@@ -42,6 +45,7 @@ apply (raised side e) s = withInterrupts (onRegister side (raisedIn e) (s .inter
 apply (cleared side bits) s = withInterrupts (onRegister side (clearedIn bits) (s .interrupts)) s
 apply (enablesAre side n) s = withInterrupts (onRegister side (enablesIn n) (s .interrupts)) s
 apply (transferIs t) s = withTransfer t s
+apply (dmaIs d) s = withDma d s
 
 -- one after another
 abbrev pub applyAll : List Change → State → State
@@ -72,6 +76,7 @@ windowAfter (toWindow at lanes v) m = writeDword m at lanes v
 -- EFFECTS
 
 infix 10 _storing_
+infix 10 _also_
 -- What a done access does: the answer's V and X, the changes, the store.
 pub record Effect : Type 0 where
   pub v : ℕ
@@ -84,6 +89,10 @@ done v x changes = record { v = v; x = x; changes = changes; store = nothing }
 
 abbrev pub _storing_ : Effect → Store → Effect
 _storing_ e store = record { v = e .v; x = e .x; changes = e .changes; store = store }
+
+-- an effect with more changes
+abbrev pub _also_ : Effect → List Change → Effect
+_also_ e more = record { v = e .v; x = e .x; changes = e .changes ++ more; store = e .store }
 
 abbrev pub worldAfter : Effect → World → World
 worldAfter e w =

@@ -18,12 +18,13 @@ use Rattle.model.specs.Arbitration.{Arbitration, Pair, pairSound, arbitr
 use Rattle.model.specs.Mailboxes.{Mailboxes, mailboxesSound, withMail}
 use Rattle.model.specs.Interrupts.{Register, Interrupts, registerSound, interruptsSound, register, onRegister, raisedIn, clearedIn, enablesIn}
 use Rattle.model.specs.Transfer.{Request, Transfer, idle, running, startChecks, transferSound, requestOf, pciOf}
-use Rattle.model.specs.State.{State, World, soundParts, sound, withFifos, withArbitration, withMailboxes, withInterrupts, withTransfer, fresh, NewCard, freshCard}
-use Rattle.model.specs.Changes.{Change, allFresh, pushed, popped, flagIs, mailIs, raised, cleared, enablesAre, transferIs, apply, applyAll, raisedInBoth, Store, nothing, toShared, toWindow, sharedAfter, windowAfter, Effect}
+use Rattle.model.specs.Dma.{Dma}
+use Rattle.model.specs.State.{State, World, soundParts, sound, withFifos, withArbitration, withMailboxes, withInterrupts, withTransfer, withDma, fresh, NewCard, freshCard}
+use Rattle.model.specs.Changes.{Change, allFresh, pushed, popped, flagIs, mailIs, raised, cleared, enablesAre, transferIs, dmaIs, apply, applyAll, raisedInBoth, Store, nothing, toShared, toWindow, sharedAfter, windowAfter, Effect}
 use Rattle.model.specs.FifosAndFlags.{takenFrom, overflow, putInto, claimed}
 use Rattle.model.specs.MailboxWrites.{mailWritten}
 use Rattle.model.specs.Steps.{stepped}
-use Rattle.model.specs.Accesses.{Access, Kind, kindOf, rowOf, fit, checks, settled, access}
+use Rattle.model.specs.Accesses.{Access, Kind, kindOf, row, rowOf, fit, checks, settled, access}
 use Rattle.model.specs.TestLaws.{and-left, and-right, and-true, or-left, each, all-of, if-case}
 use Rattle.model.specs.CheckLaws.{Pass, passed, pass-refusal}
 use Rattle.model.specs.FourLaws.{four-kept, four-get}
@@ -68,12 +69,16 @@ interrupts-replaced i s h p = record { settings = p .settings; fifos = p .fifos;
 transfer-replaced : (t : Transfer) (s : State) → transferSound t ≡ true → Sound s → Sound (withTransfer t s)
 transfer-replaced t s h p = record { settings = p .settings; fifos = p .fifos; arbitration = p .arbitration; mailboxes = p .mailboxes; interrupts = p .interrupts; transfer = h }
 
+-- of the DMA registers nothing is asked
+dma-replaced : (d : Dma) (s : State) → Sound s → Sound (withDma d s)
+dma-replaced d s p = record { settings = p .settings; fifos = p .fifos; arbitration = p .arbitration; mailboxes = p .mailboxes; interrupts = p .interrupts; transfer = p .transfer }
+
 fresh-parts : (t : Settings) → settingsPass t ≡ true → Sound (fresh t)
 fresh-parts t h = record { settings = h; fifos = refl; arbitration = refl; mailboxes = refl; interrupts = refl; transfer = refl }
 
 -- WHAT A CHANGE MUST MEET
 
-abbrev Fine : Change → State → Type 0
+abbrev pub Fine : Change → State → Type 0
 Fine allFresh s = Unit {0}
 Fine (pushed i entry) s = ltb (length (entriesOf (s .fifos) i)) 32 ≡ true
 Fine (popped i) s = Unit {0}
@@ -83,8 +88,9 @@ Fine (raised side e) s = within (mask e) (storedMask side) ≡ true
 Fine (cleared side bits) s = Unit {0}
 Fine (enablesAre side n) s = within n (enableMask side) ≡ true
 Fine (transferIs t) s = transferSound t ≡ true
+Fine (dmaIs d) s = Unit {0}
 
-abbrev FineAll : List Change → State → Type 0
+abbrev pub FineAll : List Change → State → Type 0
 FineAll [] s = Unit {0}
 FineAll (c ∷ cs) s = Fine c s × FineAll cs (apply c s)
 
@@ -136,8 +142,9 @@ keeps (raised side e) s f p = register-fine side (raisedIn e) s (λ r a b. and-t
 keeps (cleared side bits) s f p = register-fine side (clearedIn bits) s (λ r a b. and-true (within-without (r .status) bits (storedMask side) a) b) p
 keeps (enablesAre side n) s f p = register-fine side (enablesIn n) s (λ r a b. and-true a f) p
 keeps (transferIs t) s f p = transfer-replaced t s f p
+keeps (dmaIs d) s f p = dma-replaced d s p
 
-keeps-all : (cs : List Change) (s : State) → FineAll cs s → Sound s → Sound (applyAll cs s)
+pub keeps-all : (cs : List Change) (s : State) → FineAll cs s → Sound s → Sound (applyAll cs s)
 keeps-all [] s f p = p
 keeps-all (c ∷ cs) s f p = keeps-all cs (apply c s) (f .1) (keeps c s (f .0) p)
 
@@ -154,11 +161,11 @@ overflow-fine local s = (refl, (refl, tt))
 put-fine : (side : Side) (i entry : ℕ) (s : State) → FineAll (putInto side i (entriesOf (s .fifos) i) entry .changes) s
 put-fine side i entry s = if-case (λ (f : Effect). FineAll (f .changes) s) (ltb (length (entriesOf (s .fifos) i)) 32) _ _ (λ h. (h, tt)) (λ h. overflow-fine side s)
 
-claim-fine : (side : Side) (i : ℕ) (s : State) → FineAll (claimed side i (pairOf (s .arbitration) i) .changes) s
+pub claim-fine : (side : Side) (i : ℕ) (s : State) → FineAll (claimed side i (pairOf (s .arbitration) i) .changes) s
 claim-fine host i s = if-case (λ (e : Effect). FineAll (e .changes) s) (pairOf (s .arbitration) i .ofLocal) _ _ (λ h. tt) (λ h. (rw h, tt))
 claim-fine local i s = if-case (λ (e : Effect). FineAll (e .changes) s) (pairOf (s .arbitration) i .ofHost) _ _ (λ h. tt) (λ h. (rw h, tt))
 
-release-fine : (side : Side) (f : Pair) → pairSound (withFlag side false f) ≡ true
+pub release-fine : (side : Side) (f : Pair) → pairSound (withFlag side false f) ≡ true
 release-fine host f = refl
 release-fine local f = rw (and-false (f .ofHost))
 
@@ -200,25 +207,25 @@ step-fine w (running t i) s h =
     (λ _. if-case P (outsideWindow (w .card .settings) (pciOf t i) 4) _ _ (λ _. (refl, (refl, (refl, tt))))
     (λ _. if-case P (eqb (suc i) (t .size / 4)) _ _ (λ _. (refl, (refl, (refl, tt)))) (λ e. (next-fine t i h e, tt))))
 
-fine : (k : Kind) (w : World) (q : Access) → Sound (w .card) → Pass (rowOf k w q .checks) → FineAll (rowOf k w q .effect .changes) (w .card)
-fine Kind.reset w q p c = (tt, tt)
-fine Kind.sharedRead w q p c = tt
-fine Kind.sharedWrite w q p c = tt
-fine Kind.windowRead w q p c = tt
-fine Kind.windowWrite w q p c = tt
-fine Kind.take w q p c = taken-fine (q .s) (entriesOf (w .card .fifos) (q .s)) (w .card)
-fine Kind.put w q p c = put-fine (sideOf (q .side)) (q .s) (q .b) (w .card)
-fine Kind.claim w q p c = claim-fine (sideOf (q .side)) (q .s) (w .card)
-fine Kind.release w q p c = (release-fine (sideOf (q .side)) (pairOf (w .card .arbitration) (q .s)), tt)
-fine Kind.mailboxWrite w q p c = mail-fine (sideOf (q .side)) (q .b) (w .card)
-fine Kind.mailboxRead w q p c = tt
-fine Kind.interruptRead w q p c = tt
-fine Kind.interruptWrite w q p c = (within-common (q .b / 65536) (enableMask (sideOf (q .side))), (tt, tt))
-fine Kind.line w q p c = tt
-fine Kind.start w q p c = (start-fine (requestOf (q .s) (q .a) (q .b) (q .c)) (c .0, c .1 .1), tt)
-fine Kind.step w q p c = step-fine w (w .card .transfer) (w .card) (p .transfer)
-fine Kind.externalPin w q p c = (refl, tt)
-fine Kind.unknown w q p c = tt
+pub fine : (k : Kind) (w : World) (side : Side) (s a b c : ℕ) → Sound (w .card) → Pass (row k w side s a b c .checks) → FineAll (row k w side s a b c .effect .changes) (w .card)
+fine Kind.reset w side s a b c p h = (tt, tt)
+fine Kind.sharedRead w side s a b c p h = tt
+fine Kind.sharedWrite w side s a b c p h = tt
+fine Kind.windowRead w side s a b c p h = tt
+fine Kind.windowWrite w side s a b c p h = tt
+fine Kind.take w side s a b c p h = taken-fine s (entriesOf (w .card .fifos) s) (w .card)
+fine Kind.put w side s a b c p h = put-fine side s b (w .card)
+fine Kind.claim w side s a b c p h = claim-fine side s (w .card)
+fine Kind.release w side s a b c p h = (release-fine side (pairOf (w .card .arbitration) s), tt)
+fine Kind.mailboxWrite w side s a b c p h = mail-fine side b (w .card)
+fine Kind.mailboxRead w side s a b c p h = tt
+fine Kind.interruptRead w side s a b c p h = tt
+fine Kind.interruptWrite w side s a b c p h = (within-common (b / 65536) (enableMask side), (tt, tt))
+fine Kind.line w side s a b c p h = tt
+fine Kind.start w side s a b c p h = (start-fine (requestOf s a b c) (h .0, h .1 .1), tt)
+fine Kind.step w side s a b c p h = step-fine w (w .card .transfer) (w .card) (p .transfer)
+fine Kind.externalPin w side s a b c p h = (refl, tt)
+fine Kind.unknown w side s a b c p h = tt
 
 -- THE LAWS
 
@@ -227,7 +234,7 @@ unfolding access
 stays-sound w q h = parts-sound _ (by (refusal (checks w q)) refl (sound-parts (w .card) h))
   where
     by : (n : ℕ) → refusal (checks w q) ≡ n → Sound (w .card) → Sound (settled n (rowOf (kindOf (q .kind)) w q .effect) w .world .card)
-    by zero e p = keeps-all (rowOf (kindOf (q .kind)) w q .effect .changes) (w .card) (fine (kindOf (q .kind)) w q p (checks-passed w q e .1 .1)) p
+    by zero e p = keeps-all (rowOf (kindOf (q .kind)) w q .effect .changes) (w .card) (fine (kindOf (q .kind)) w (sideOf (q .side)) (q .s) (q .a) (q .b) (q .c) p (checks-passed w q e .1 .1)) p
     by (suc n) e p = p
 
 -- what no access changes
@@ -246,8 +253,9 @@ settings-one (raised side e) s = refl
 settings-one (cleared side bits) s = refl
 settings-one (enablesAre side n) s = refl
 settings-one (transferIs d) s = refl
+settings-one (dmaIs d) s = refl
 
-settings-all : (cs : List Change) (s : State) → applyAll cs s .settings ≡ s .settings
+pub settings-all : (cs : List Change) (s : State) → applyAll cs s .settings ≡ s .settings
 settings-all [] s = refl
 settings-all (c ∷ cs) s = settings-all cs (apply c s) ∙ settings-one c s
 
@@ -261,13 +269,13 @@ length-window nothing m = refl
 length-window (toShared at lanes v) m = refl
 length-window (toWindow at lanes v) m = length-write m at lanes v
 
+pub settled-stays : (w : World) (n : ℕ) (e : Effect) → Stays w (settled n e w .world)
+settled-stays w zero e = record { settings = settings-all (e .changes) (w .card); shared = length-shared (e .store) (w .shared); window = length-window (e .store) (w .window) }
+settled-stays w (suc n) e = record { settings = refl; shared = refl; window = refl }
+
 pub stays : (w : World) (q : Access) → Stays w (access w q .world)
 unfolding access
-stays w q = by (refusal (checks w q)) (rowOf (kindOf (q .kind)) w q .effect)
-  where
-    by : (n : ℕ) (e : Effect) → Stays w (settled n e w .world)
-    by zero e = record { settings = settings-all (e .changes) (w .card); shared = length-shared (e .store) (w .shared); window = length-window (e .store) (w .window) }
-    by (suc n) e = record { settings = refl; shared = refl; window = refl }
+stays w q = settled-stays w (refusal (checks w q)) (rowOf (kindOf (q .kind)) w q .effect)
 
 -- so a fit world stays fit
 pub record Fit (w : World) : Type 0 where
@@ -286,11 +294,13 @@ fit-parts w h =
 pub parts-fit : (w : World) → Fit w → fit w ≡ true
 parts-fit w p = and-true (p .sound) (and-true (eq-eqb _ _ (p .shared)) (eq-eqb _ _ (p .window)))
 
-pub stays-fit : (w : World) (q : Access) → fit w ≡ true → fit (access w q .world) ≡ true
-stays-fit w q h =
+pub keeps-fit : (w w′ : World) → Stays w w′ → (sound (w .card) ≡ true → sound (w′ .card) ≡ true) → fit w ≡ true → fit w′ ≡ true
+keeps-fit w w′ t s h =
     let p = fit-parts w h in
-    let t = stays w q in
-    parts-fit (access w q .world) (record { sound = stays-sound w q (p .sound); shared = t .shared ∙ p .shared; window = t .window ∙ p .window ∙ sym (ap (λ s. s .length) (t .settings)) })
+    parts-fit w′ (record { sound = s (p .sound); shared = t .shared ∙ p .shared; window = t .window ∙ p .window ∙ sym (ap (λ s. s .length) (t .settings)) })
+
+pub stays-fit : (w : World) (q : Access) → fit w ≡ true → fit (access w q .world) ≡ true
+stays-fit w q = keeps-fit w (access w q .world) (stays w q) (stays-sound w q)
 
 pub done-fit : (w : World) (q : Access) → refusal (checks w q) ≡ 0 → fit w ≡ true
 done-fit w q h = not-false (fit w) (checks-passed w q h .0)

@@ -9,6 +9,7 @@ use Rattle.model.specs.Arbitration.{Arbitration, freshArbitration, arbit
 use Rattle.model.specs.Mailboxes.{Mailboxes, freshMailboxes, mailboxesSound}
 use Rattle.model.specs.Interrupts.{Interrupts, freshInterrupts, interruptsSound}
 use Rattle.model.specs.Transfer.{Transfer, idle, transferSound}
+use Rattle.model.specs.Dma.{Dma, freshDma}
 
 -- the card's record
 pub record State : Type 0 where
@@ -18,6 +19,7 @@ pub record State : Type 0 where
   pub mailboxes : Mailboxes
   pub interrupts : Interrupts
   pub transfer : Transfer
+  pub dma : Dma
 
 -- the card with both memories, a byte to a number
 pub record World : Type 0 where
@@ -41,26 +43,29 @@ sound s = allOf (soundParts s)
 -- ONE PART REPLACED
 
 abbrev pub withFifos : Fifos → State → State
-withFifos f s = record { settings = s .settings; fifos = f; arbitration = s .arbitration; mailboxes = s .mailboxes; interrupts = s .interrupts; transfer = s .transfer }
+withFifos f s = record { settings = s .settings; fifos = f; arbitration = s .arbitration; mailboxes = s .mailboxes; interrupts = s .interrupts; transfer = s .transfer; dma = s .dma }
 
 abbrev pub withArbitration : Arbitration → State → State
-withArbitration a s = record { settings = s .settings; fifos = s .fifos; arbitration = a; mailboxes = s .mailboxes; interrupts = s .interrupts; transfer = s .transfer }
+withArbitration a s = record { settings = s .settings; fifos = s .fifos; arbitration = a; mailboxes = s .mailboxes; interrupts = s .interrupts; transfer = s .transfer; dma = s .dma }
 
 abbrev pub withMailboxes : Mailboxes → State → State
-withMailboxes m s = record { settings = s .settings; fifos = s .fifos; arbitration = s .arbitration; mailboxes = m; interrupts = s .interrupts; transfer = s .transfer }
+withMailboxes m s = record { settings = s .settings; fifos = s .fifos; arbitration = s .arbitration; mailboxes = m; interrupts = s .interrupts; transfer = s .transfer; dma = s .dma }
 
 abbrev pub withInterrupts : Interrupts → State → State
-withInterrupts i s = record { settings = s .settings; fifos = s .fifos; arbitration = s .arbitration; mailboxes = s .mailboxes; interrupts = i; transfer = s .transfer }
+withInterrupts i s = record { settings = s .settings; fifos = s .fifos; arbitration = s .arbitration; mailboxes = s .mailboxes; interrupts = i; transfer = s .transfer; dma = s .dma }
 
 abbrev pub withTransfer : Transfer → State → State
-withTransfer t s = record { settings = s .settings; fifos = s .fifos; arbitration = s .arbitration; mailboxes = s .mailboxes; interrupts = s .interrupts; transfer = t }
+withTransfer t s = record { settings = s .settings; fifos = s .fifos; arbitration = s .arbitration; mailboxes = s .mailboxes; interrupts = s .interrupts; transfer = t; dma = s .dma }
+
+abbrev pub withDma : Dma → State → State
+withDma d s = record { settings = s .settings; fifos = s .fifos; arbitration = s .arbitration; mailboxes = s .mailboxes; interrupts = s .interrupts; transfer = s .transfer; dma = d }
 
 -- THE FRESH CARD
 
 -- "A fresh card has empty FIFOs and all else 0, clear or idle."
 abbrev pub fresh : Settings → State
 fresh settings =
-    record { settings = settings; fifos = freshFifos; arbitration = freshArbitration; mailboxes = freshMailboxes; interrupts = freshInterrupts; transfer = idle }
+    record { settings = settings; fifos = freshFifos; arbitration = freshArbitration; mailboxes = freshMailboxes; interrupts = freshInterrupts; transfer = idle; dma = freshDma }
 
 -- what a caller who asks for a card gets
 pub record NewCard : Type 0 where

@@ -8,7 +8,7 @@ use Rattle.model.specs.Sides.{Side, host, local}
 use Rattle.model.specs.Events.{Event}
 use Rattle.model.specs.Interrupts.{onRegister}
 use Rattle.model.specs.State.{State, World, withInterrupts}
-use Rattle.model.specs.Changes.{Change, allFresh, pushed, popped, flagIs, mailIs, raised, cleared, enablesAre, transferIs, apply, applyAll, Store, nothing, toShared, toWindow, sharedAfter, windowAfter, Effect, worldAfter}
+use Rattle.model.specs.Changes.{Change, allFresh, pushed, popped, flagIs, mailIs, raised, cleared, enablesAre, transferIs, dmaIs, apply, applyAll, Store, nothing, toShared, toWindow, sharedAfter, windowAfter, Effect, worldAfter}
 use Rattle.model.specs.TestLaws.{All}
 use Rattle.model.specs.LaneLaws.{Covers, read-write, write-write}
 use Rattle.model.specs.EventLaws.{insert-comm}
@@ -26,6 +26,7 @@ Plain (raised side e) = Unit {0}
 Plain (cleared side bits) = ⊥
 Plain (enablesAre side n) = ⊥
 Plain (transferIs d) = ⊥
+Plain (dmaIs d) = ⊥
 
 -- what a step changes: the transfer, and events raised
 abbrev pub Stepwise : Change → Type 0
@@ -38,6 +39,7 @@ Stepwise (raised side e) = Unit {0}
 Stepwise (cleared side bits) = ⊥
 Stepwise (enablesAre side n) = ⊥
 Stepwise (transferIs d) = Unit {0}
+Stepwise (dmaIs d) = ⊥
 
 raise-raise : (a b : Side) (d e : Event) (s : State) → apply (raised a d) (apply (raised b e) s) ≡ apply (raised b e) (apply (raised a d) s)
 raise-raise host host d e s = ap (λ n. withInterrupts (onRegister host (λ r. record { enables = r .enables; status = n }) (s .interrupts)) s) (insert-comm (s .interrupts .hint .status) e d)

@@ -16,22 +16,22 @@ use Rattle.model.specs.Transfer.{Request, Transfer, idle, running, transferSoun
 use Rattle.model.specs.State.{World, NewCard, freshCard, freshWorld}
 use Rattle.model.specs.Changes.{Effect, worldAfter}
 use Rattle.model.specs.Steps.{stepped}
-use Rattle.model.specs.Runs.{Entry, run, entryAt}
+use Rattle.model.specs.Runs.{Outcome, Entry, run, entryAt}
 use Rattle.model.specs.Accesses.{Access, Answer, Kind, step, kindOf, rowOf, fit, checks, settled, access, numberOf}
 use Rattle.model.specs.TestLaws.{All, no-both, and-left, and-right, or-left, if-case}
 use Rattle.model.specs.CheckLaws.{Pass, pass-refusal}
 use Rattle.model.specs.LaneLaws.{Covers, lane-byte, covers-pci}
-use Rattle.model.specs.KindLaws.{number-at, kind-at}
+use Rattle.model.specs.KindLaws.{number-at, kind-at, refusedWith}
 use Rattle.model.specs.Refusals.{number-is, checks-passed, done-is, refused-is}
-use Rattle.model.specs.Soundness.{sound-parts, fit-parts, stays, stays-fit, done-fit}
+use Rattle.model.specs.Soundness.{sound-parts, fit-parts, settings-all, stays-fit, done-fit}
 use Rattle.reordering.specs.Roles.{TransferAction, resets, starts, steps, none, roles, moved, Owned}
 use Rattle.reordering.specs.Reordering.{Place, sharedByte, pciByte, Touch, reading, writing, doneTouches, startTouches, inRange, disturbs, quiet, doneAction, actionOf, StepsMove}
-use Rattle.reordering.specs.Moving.{Exchange, Exchanged, moved-same, moved-perm, owned}
-use Rattle.reordering.specs.Commute.{Stepwise, Misses, Like, like, reads-shared, reads-window, swap-effects}
-use Rattle.reordering.specs.Kinds.{PlainKind, plain-effect, plain-changes, plain-transfer, plain-fixed, Fixed, same-checks, same-effect}
-use Rattle.reordering.specs.Stepping.{opened, openIn, from-base, InShared, InWindow, step-changes, step-hits, same-step, in-shared, in-window, direction-is, step-misses, After, transfer-after, follows, step-open}
+use Rattle.reordering.specs.Moving.{Exchange, moved-same, moved-perm, owned}
+use Rattle.reordering.specs.Commute.{Plain, Stepwise, keep-transfer, Misses, Like, like, reads-shared, reads-window, swap-effects}
+use Rattle.reordering.specs.Kinds.{PlainKind, plain-effect, plain-changes, plain-fixed, Fixed, same-checks, same-effect}
+use Rattle.reordering.specs.Stepping.{opened, openIn, from-base, InShared, InWindow, step-changes, step-hits, same-step, in-shared, in-window, direction-is, step-misses, After, transfer-after, follows, after-open}
 
-abbrev answerOf : Effect → Answer
+abbrev pub answerOf : Effect → Answer
 answerOf e = record { number = 0; v = e .v; x = e .x }
 
 -- QUIET ENTRIES
@@ -100,7 +100,7 @@ step-kind Kind.step q v = refl
 step-kind Kind.externalPin q v = refl
 step-kind Kind.unknown q v = refl
 
-is-step : (q : Access) (r : Answer) (b : Bool) → actionOf (record { access = q; answer = r }) ≡ steps b → (r .number ≡ 0) × (q .kind ≡ numberOf Kind.step)
+pub is-step : (q : Access) (r : Answer) (b : Bool) → actionOf (record { access = q; answer = r }) ≡ steps b → (r .number ≡ 0) × (q .kind ≡ numberOf Kind.step)
 is-step q r b h = by (eqb (r .number) 0) refl (ap isStep h)
   where
     by : (x : Bool) → eqb (r .number) 0 ≡ x → isStep (if x then doneAction (kindOf (q .kind)) q (r .v) else none) ≡ true → (r .number ≡ 0) × (q .kind ≡ numberOf Kind.step)
@@ -111,13 +111,13 @@ is-step q r b h = by (eqb (r .number) 0) refl (ap isStep h)
     by false e h = no-both h
 
 -- what a done step passed
-record Stepped (w : World) (s : Access) : Type 0 where
-  fits : fit w ≡ true
-  known : (above 16 (s .kind) || above 1 (s .side)) ≡ false
-  clean : nonzero (s .s ∷ s .a ∷ s .b ∷ s .c ∷ []) ≡ false
-  busy : isIdle (w .card .transfer) ≡ false
+pub record Stepped (w : World) (s : Access) : Type 0 where
+  pub fits : fit w ≡ true
+  pub known : (above 16 (s .kind) || above 1 (s .side)) ≡ false
+  pub clean : nonzero (s .s ∷ s .a ∷ s .b ∷ s .c ∷ []) ≡ false
+  pub busy : isIdle (w .card .transfer) ≡ false
 
-step-passed : (w : World) (s : Access) → s .kind ≡ numberOf Kind.step → refusal (checks w s) ≡ 0 → Stepped w s
+pub step-passed : (w : World) (s : Access) → s .kind ≡ numberOf Kind.step → refusal (checks w s) ≡ 0 → Stepped w s
 step-passed w s k h =
     let p = checks-passed w s h in
     let q : Pass (rowOf Kind.step w s .checks) = subst (λ k. Pass (rowOf k w s .checks)) (ap kindOf k) (p .1 .1) in
@@ -175,19 +175,100 @@ step-refusal o k w w′ f f′ y n h =
     go false false true z′ e h = no-both (sym e)
     go false false false z′ e h = absurd (omega arith)
 
+-- CHANGING PLACES
+
+-- What is done in a world, whatever it is, and the step right after it; and the other way round.
+pub record Swapped (act : World → Outcome Answer World) (w : World) (s : Access) : Type 0 where
+  pub step : access w s .answer ≡ access (act w .world) s .answer
+  pub other : act (access w s .world) .answer ≡ act w .answer
+  pub world : act (access w s .world) .world ≡ access (act w .world) s .world
+
+module _ (act : World → Outcome Answer World) (w : World) (s : Access) (k : s .kind ≡ numberOf Kind.step) (h : refusal (checks (act w .world) s) ≡ 0) where
+  -- refused alike before and behind the step
+  pub swap-refused : (n : ℕ) → act w ≡ refusedWith n w → ((w′ : World) → Stepped w s → Like (w .card) (w′ .card) → fit w′ ≡ true → act w′ ≡ refusedWith n w′) → Swapped act w s
+  swap-refused n e again =
+      let r : act w .world ≡ w = ap (λ p. p .world) e in
+      let hs : refusal (checks w s) ≡ 0 = subst (λ x. refusal (checks x s) ≡ 0) r h in
+      let p = step-passed w s k hs in
+      let e′ = again (access w s .world) p (like-after w s k hs) (stays-fit w s (p .fits)) in
+      record {
+        step = ap (λ x. access x s .answer) (sym r);
+        other = ap (λ p. p .answer) e′ ∙ sym (ap (λ p. p .answer) e);
+        world = ap (λ p. p .world) e′ ∙ ap (λ x. access x s .world) (sym r);
+      }
+
+  -- done with an effect of plain changes, whose store the step does not touch; and done with the same effect behind the step
+  module _ (t : Request) (i : ℕ) (at : w .card .transfer ≡ running t i) (fits : fit w ≡ true) (E : Effect) (is : act w ≡ record { answer = answerOf E; world = worldAfter E w })
+      (plain : All Plain (E .changes)) (misses : Misses (InShared w t i) (InWindow w t i) (E .store)) where
+    abbrev F : Effect
+    F = stepped w (running t i)
+
+    -- where what is done leads, and where the step leads
+    w₁ : World
+    w₁ = worldAfter E w
+
+    w₂ : World
+    w₂ = worldAfter F w
+
+    is₁ : act w ≡ record { answer = answerOf E; world = w₁ }
+    unfolding w₁
+    is₁ = is
+
+    transfer₁ : w₁ .card .transfer ≡ running t i
+    unfolding w₁
+    transfer₁ = keep-transfer (E .changes) plain (w .card) ∙ at
+
+    step₁ : stepped w₁ (w₁ .card .transfer) ≡ F
+    unfolding w₁
+    step₁ =
+        ap (stepped w₁) transfer₁
+        ∙ same-step w t i w₁ (settings-all (E .changes) (w .card))
+        (λ y. reads-shared (InShared w t i) (InWindow w t i) (E .store) misses (w .shared) (t .shared + 4 * i) 0 (λ j z. (y, z)))
+        (λ y. reads-window (InShared w t i) (InWindow w t i) (E .store) misses (w .window) (pciOf t i - w .card .settings .base) 0 (λ j z. (y, z)))
+
+    h₁ : refusal (checks w₁ s) ≡ 0
+    h₁ = subst (λ x. refusal (checks x s) ≡ 0) (ap (λ p. p .world) is₁) h
+
+    s₁-is : access w₁ s ≡ record { answer = answerOf F; world = worldAfter F w₁ }
+    s₁-is = step-is w₁ s k h₁ ∙ ap (λ f. settled 0 f w₁) step₁
+
+    h₀ : refusal (checks w s) ≡ 0
+    h₀ =
+        let p = step-passed w₁ s k h₁ in
+        step-passes w s k (record { fits = fits; known = p .known; clean = p .clean; busy = ap isIdle at })
+
+    s-is : access w s ≡ record { answer = answerOf F; world = w₂ }
+    unfolding w₂
+    s-is = step-is w s k h₀ ∙ ap (λ d. settled 0 (stepped w d) w) at
+
+    like₂ : Like (w .card) (w₂ .card)
+    unfolding w₂
+    like₂ = like (F .changes) (step-changes w t i) (w .card)
+
+    fit₂ : fit w₂ ≡ true
+    fit₂ = subst (λ x. fit x ≡ true) (ap (λ p. p .world) s-is) (stays-fit w s fits)
+
+    both-ways : worldAfter E w₂ ≡ worldAfter F w₁
+    unfolding w₁ w₂
+    both-ways = swap-effects (InShared w t i) (InWindow w t i) E F plain misses (step-changes w t i) (step-hits w t i) w
+
+    pub swap-done : ((w′ : World) → w′ ≡ worldAfter (stepped w (running t i)) w → Like (w .card) (w′ .card) → fit w′ ≡ true → act w′ ≡ record { answer = answerOf E; world = worldAfter E w′ }) → Swapped act w s
+    unfolding w₂
+    swap-done again =
+        let is₂ = again w₂ refl like₂ fit₂ in
+        record {
+          step = ap (λ p. p .answer) s-is ∙ sym (ap (λ p. p .answer) s₁-is) ∙ ap (λ x. access x s .answer) (sym (ap (λ p. p .world) is₁));
+          other = ap (λ x. act x .answer) (ap (λ p. p .world) s-is) ∙ ap (λ p. p .answer) is₂ ∙ sym (ap (λ p. p .answer) is₁);
+          world = ap (λ x. act x .world) (ap (λ p. p .world) s-is) ∙ ap (λ p. p .world) is₂ ∙ both-ways ∙ sym (ap (λ p. p .world) s₁-is) ∙ ap (λ x. access x s .world) (sym (ap (λ p. p .world) is₁));
+        }
+
+-- REFUSED ACCESSES
+
 -- a refused access, no start, is refused alike before the step
-exchange-refused : (w : World) (o s : Access) (n : ℕ) → o .kind ≢ numberOf Kind.start → refusal (checks w o) ≡ suc n → s .kind ≡ numberOf Kind.step → refusal (checks (access w o .world) s) ≡ 0 → Exchanged access actionOf quiet opened w o s
+exchange-refused : (w : World) (o s : Access) (n : ℕ) → o .kind ≢ numberOf Kind.start → refusal (checks w o) ≡ suc n → s .kind ≡ numberOf Kind.step → refusal (checks (access w o .world) s) ≡ 0 →
+    Swapped (λ w. access w o) w s
 exchange-refused w o s n q e k h =
-    let r : access w o .world ≡ w = ap (λ p. p .world) (refused-is w o n e) in
-    let hs : refusal (checks w s) ≡ 0 = subst (λ x. refusal (checks x s) ≡ 0) r h in
-    let p = step-passed w s k hs in
-    let w′ = access w s .world in
-    let again : refusal (checks w′ o) ≡ suc n = by w′ p (like-after w s k hs) (stays-fit w s (p .fits)) (eqb (o .kind) (numberOf Kind.step)) refl in
-    record {
-      step = ap (λ x. access x s .answer) (sym r);
-      other = ap (λ p. p .answer) (refused-is w′ o n again) ∙ sym (ap (λ p. p .answer) (refused-is w o n e));
-      world = ap (λ p. p .world) (refused-is w′ o n again) ∙ ap (λ x. access x s .world) (sym r);
-    }
+    swap-refused (λ w. access w o) w s k h (suc n) (refused-is w o n e) (λ w′ p l f. refused-is w′ o n (by w′ p l f (eqb (o .kind) (numberOf Kind.step)) refl))
   where
     by : (w′ : World) → Stepped w s → Like (w .card) (w′ .card) → fit w′ ≡ true → (b : Bool) → eqb (o .kind) (numberOf Kind.step) ≡ b → refusal (checks w′ o) ≡ suc n
     by w′ p l f true x = step-refusal o (eqb-true (o .kind) (numberOf Kind.step) x) w w′ (p .fits) f (p .busy) n e
@@ -239,8 +320,8 @@ module _ (w : World) (o s : Access) (t : Request) (i : ℕ) (at : w .card .trans
   abbrev E : Effect
   E = rowOf (kindOf (o .kind)) w o .effect
 
-  abbrev F : Effect
-  F = stepped w (running t i)
+  abbrev F₀ : Effect
+  F₀ = stepped w (running t i)
 
   done-o : access w o .answer .number ≡ 0
   done-o = number-is w o ∙ e
@@ -286,94 +367,44 @@ module _ (w : World) (o s : Access) (t : Request) (i : ℕ) (at : w .card .trans
   abbrev ReadWindow : ℕ → Type 0
   ReadWindow j = (kindOf (o .kind) ≡ Kind.windowRead) × Covers 4 (o .a - base) (o .s) j
 
-  reads-miss : Misses ReadShared ReadWindow (F .store)
+  reads-miss : Misses ReadShared ReadWindow (F₀ .store)
   reads-miss =
       step-misses w t i sound-t ReadShared ReadWindow
       (λ j r d. no-both (sym (quiet-byte t o (access w o .answer) q done-o Kind.sharedRead (λ i. reading (sharedByte i)) (r .0) refl j (r .1)) ∙ d))
       (λ j r d. no-both (sym (quiet-byte t o (access w o .answer) q done-o Kind.windowRead (λ i. reading (pciByte i)) (r .0) refl (j + base) (covers-pci (o .a) base (o .s) j (based Kind.windowRead (inl refl) (r .0)) (r .1))) ∙ d))
 
-  -- where the access leads, and where the step leads
-  w₁ : World
-  w₁ = worldAfter E w
-
-  w₂ : World
-  w₂ = worldAfter F w
-
-  o-is : access w o ≡ record { answer = answerOf E; world = w₁ }
-  unfolding w₁
-  o-is = done-is w o e
-
-  transfer₁ : w₁ .card .transfer ≡ running t i
-  unfolding w₁
-  transfer₁ = plain-transfer (kindOf (o .kind)) plain w o ∙ at
-
-  settings₁ : w₁ .card .settings ≡ w .card .settings
-  settings₁ = subst (λ (x : World). x .card .settings ≡ w .card .settings) (ap (λ p. p .world) o-is) (stays w o .settings)
-
-  step₁ : stepped w₁ (w₁ .card .transfer) ≡ F
-  unfolding w₁
-  step₁ =
-      ap (stepped w₁) transfer₁
-      ∙ same-step w t i w₁ settings₁
-      (λ y. reads-shared (InShared w t i) (InWindow w t i) (E .store) stores-miss (w .shared) (t .shared + 4 * i) 0 (λ j z. (y, z)))
-      (λ y. reads-window (InShared w t i) (InWindow w t i) (E .store) stores-miss (w .window) (pciOf t i - base) 0 (λ j z. (y, z)))
-
-  module _ (h : refusal (checks (access w o .world) s) ≡ 0) where
-    h₁ : refusal (checks w₁ s) ≡ 0
-    h₁ = subst (λ x. refusal (checks x s) ≡ 0) (ap (λ p. p .world) o-is) h
-
-    s₁-is : access w₁ s ≡ record { answer = answerOf F; world = worldAfter F w₁ }
-    s₁-is = step-is w₁ s k h₁ ∙ ap (λ f. settled 0 f w₁) step₁
-
-    h₀ : refusal (checks w s) ≡ 0
-    h₀ =
-        let p = step-passed w₁ s k h₁ in
-        step-passes w s k (record { fits = fits; known = p .known; clean = p .clean; busy = ap isIdle at })
-
-    s-is : access w s ≡ record { answer = answerOf F; world = w₂ }
-    unfolding w₂
-    s-is = step-is w s k h₀ ∙ ap (λ d. settled 0 (stepped w d) w) at
-
-    like₂ : Like (w .card) (w₂ .card)
-    unfolding w₂
-    like₂ = like (F .changes) (step-changes w t i) (w .card)
-
-    fit₂ : fit w₂ ≡ true
-    fit₂ = subst (λ x. fit x ≡ true) (ap (λ p. p .world) s-is) (stays-fit w s fits)
-
-    o₂-is : access w₂ o ≡ record { answer = answerOf E; world = worldAfter E w₂ }
-    unfolding w₂
-    o₂-is =
-        done-is w₂ o (same-refusal o (plain-fixed (kindOf (o .kind)) plain) w w₂ like₂ fits fit₂ ∙ e)
-        ∙ ap (λ f. settled 0 f w₂)
-        (same-effect (kindOf (o .kind)) plain w w₂ o like₂
-        (λ x. reads-shared ReadShared ReadWindow (F .store) reads-miss (w .shared) (o .a) (o .s) (λ j z. (x, z)))
-        (λ x. reads-window ReadShared ReadWindow (F .store) reads-miss (w .window) (o .a - base) (o .s) (λ j z. (x, z))))
-
-    both-ways : worldAfter E w₂ ≡ worldAfter F w₁
-    unfolding w₁ w₂
-    both-ways = swap-effects (InShared w t i) (InWindow w t i) E F (plain-changes (kindOf (o .kind)) plain w o) stores-miss (step-changes w t i) (step-hits w t i) w
-
-    exchange-done : Exchanged access actionOf quiet opened w o s
-    exchange-done = record {
-      step = ap (λ p. p .answer) s-is ∙ sym (ap (λ p. p .answer) s₁-is) ∙ ap (λ x. access x s .answer) (sym (ap (λ p. p .world) o-is));
-      other = ap (λ x. access x o .answer) (ap (λ p. p .world) s-is) ∙ ap (λ p. p .answer) o₂-is ∙ sym (ap (λ p. p .answer) o-is);
-      world = ap (λ x. access x o .world) (ap (λ p. p .world) s-is) ∙ ap (λ p. p .world) o₂-is ∙ both-ways ∙ sym (ap (λ p. p .world) s₁-is) ∙ ap (λ x. access x s .world) (sym (ap (λ p. p .world) o-is));
-    }
+  exchange-done : refusal (checks (access w o .world) s) ≡ 0 → Swapped (λ w. access w o) w s
+  exchange-done h = swap-done (λ w. access w o) w s k h t i at fits E (done-is w o e) (plain-changes (kindOf (o .kind)) plain w o) stores-miss again
+    where
+      again : (w′ : World) → w′ ≡ worldAfter (stepped w (running t i)) w → Like (w .card) (w′ .card) → fit w′ ≡ true → access w′ o ≡ record { answer = answerOf E; world = worldAfter E w′ }
+      again w′ is l f =
+          done-is w′ o (same-refusal o (plain-fixed (kindOf (o .kind)) plain) w w′ l fits f ∙ e)
+          ∙ ap (λ f. settled 0 f w′)
+          (same-effect (kindOf (o .kind)) plain w w′ o l
+          (λ x. rw is (reads-shared ReadShared ReadWindow (F₀ .store) reads-miss (w .shared) (o .a) (o .s) (λ j z. (x, z))))
+          (λ x. rw is (reads-window ReadShared ReadWindow (F₀ .store) reads-miss (w .window) (o .a - base) (o .s) (λ j z. (x, z)))))
 
 -- THE SECOND LAW
 
-pub exchange : Exchange access actionOf quiet opened
-exchange w o s t q b h n calm k =
-    let z = is-step s (access (access w o .world) s .answer) b k in
-    by (w .card .transfer) refl h (z .1) (sym (number-is (access w o .world) s) ∙ z .0) (refusal (checks w o)) refl
+-- a done step, as its action tells
+pub step-told : (w : World) (s : Access) (b : Bool) → actionOf (entryAt access w s) ≡ steps b → (s .kind ≡ numberOf Kind.step) × (refusal (checks w s) ≡ 0)
+step-told w s b k = let z = is-step s (access w s .answer) b k in (z .1, sym (number-is w s) ∙ z .0)
+
+pub swapped : (w : World) (o s : Access) (t : Request) (q : List Request) (b : Bool) → opened w ≡ t ∷ q → ((c : Bool) → actionOf (entryAt access w o) ≢ steps c) →
+    quiet t (entryAt access w o) ≡ true → actionOf (entryAt access (access w o .world) s) ≡ steps b → Swapped (λ w. access w o) w s
+swapped w o s t q b h n calm k =
+    let z = step-told (access w o .world) s b k in
+    by (w .card .transfer) refl h (z .0) (z .1) (refusal (checks w o)) refl
   where
-    by : (d : Transfer) → w .card .transfer ≡ d → openIn d ≡ t ∷ q → s .kind ≡ numberOf Kind.step → refusal (checks (access w o .world) s) ≡ 0 → (m : ℕ) → refusal (checks w o) ≡ m → Exchanged access actionOf quiet opened w o s
+    by : (d : Transfer) → w .card .transfer ≡ d → openIn d ≡ t ∷ q → s .kind ≡ numberOf Kind.step → refusal (checks (access w o .world) s) ≡ 0 → (m : ℕ) → refusal (checks w o) ≡ m → Swapped (λ w. access w o) w s
     by idle g h k z m e = absurd (let z : _≡_ {A = ℕ} 0 1 = cc in omega arith)
     by (running u i) g h k z (suc m) e = exchange-refused w o s m (quiet-no-start t o (access w o .answer) calm) e k z
     by (running u i) g h k z zero e =
         let same : t ≡ u = cc in
         exchange-done w o s u i g (subst (λ x. quiet x (entryAt access w o) ≡ true) same calm) e (plain-kind w o t e calm n) k z
+
+pub exchange : Exchange access actionOf quiet opened
+exchange w o s t q b h n calm k = let x = swapped w o s t q b h n calm k in record { step = x .step; other = x .other; world = x .world }
 
 -- RULE 3
 
@@ -391,4 +422,4 @@ every-entry-once w accesses = moved-perm actionOf (run access w accesses .entrie
 -- every done step has its start
 pub every-step-owned : (settings : Settings) (shared window : List ℕ) (accesses : List Access) →
     Owned actionOf (roles actionOf (run access (freshWorld settings shared window) accesses .entries))
-every-step-owned settings shared window accesses = owned access actionOf quiet opened follows step-open (freshWorld settings shared window) accesses 0 [] (fresh-idle settings)
+every-step-owned settings shared window accesses = owned access actionOf quiet opened follows (after-open access actionOf quiet transfer-after) (freshWorld settings shared window) accesses 0 [] (fresh-idle settings)

@@ -1,9 +1,11 @@
 pub mod Roles
 pub mod Reordering
+pub mod CallReordering
 pub mod Moving
 pub mod Commute
 pub mod Kinds
 pub mod Stepping
 pub mod Exchange
+pub mod CallExchange
 pub mod Premise
 pub mod Ending

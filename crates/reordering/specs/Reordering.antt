@@ -114,14 +114,18 @@ actionOf e = if eqb (e .answer .number) 0 then doneAction (kindOf (e .access .ki
 -- start and its last done step every access is `harmless` to the transfer, the list with each transfer's done steps moved to its start gets for every access the
 -- number, V and X that it had, and leaves the same record and the same bytes. "The records are compared whole, FIFOs by entries held, an idle
 -- transfer as idle."
-abbrev pub StepsMoveIf : (harmless : Request → Entry Access Answer → Bool) → (machine : World → Access → Outcome Answer World) → Type 0
-StepsMoveIf harmless machine =
+abbrev pub StepsMoveOf : {Access Answer : Type 0} → (actionOf : Entry Access Answer → TransferAction Request) → (harmless : Request → Entry Access Answer → Bool) →
+    (machine : World → Access → Outcome Answer World) → Type 0
+StepsMoveOf {Access} actionOf harmless machine =
     (settings : Settings) (shared window : List ℕ) (accesses : List Access) →
     let w = freshWorld settings shared window in
     let ran = run machine w accesses in
     let list = roles actionOf (ran .entries) in
     Undisturbed harmless list →
     run machine w (map (λ e. e .access) (moved list)) ≡ record { entries = moved list; world = ran .world }
+
+abbrev pub StepsMoveIf : (harmless : Request → Entry Access Answer → Bool) → (machine : World → Access → Outcome Answer World) → Type 0
+StepsMoveIf harmless machine = StepsMoveOf actionOf harmless machine
 
 abbrev pub StepsMove : (machine : World → Access → Outcome Answer World) → Type 0
 StepsMove machine = StepsMoveIf quiet machine

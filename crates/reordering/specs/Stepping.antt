@@ -16,7 +16,7 @@ use Rattle.model.specs.Transfer.{Request, Transfer, idle, running, transferSoun
 use Rattle.model.specs.State.{World}
 use Rattle.model.specs.Changes.{Store, nothing, toShared, toWindow, Effect, done, _storing_, transferIs, applyAll, raisedInBoth}
 use Rattle.model.specs.Steps.{copy, copyOf, stepped}
-use Rattle.model.specs.Runs.{entryAt}
+use Rattle.model.specs.Runs.{Outcome, Entry, entryAt}
 use Rattle.model.specs.Accesses.{Access, Kind, kindOf, rowOf, checks, settled, access}
 use Rattle.model.specs.TestLaws.{All, no-both, and-true, if-case}
 use Rattle.model.specs.CheckLaws.{Pass}
@@ -203,20 +203,27 @@ transfer-after w q = by (refusal (checks w q)) refl
     by zero h = after-kind (kindOf (q .kind)) w q (checks-passed w q h .1 .1)
     by (suc n) h = rw (eqb·suc-zero n) refl
 
-pub follows : Follows access actionOf quiet opened
-follows w q = by (actionOf (entryAt access w q)) (w .card .transfer) (access w q .world .card .transfer) (transfer-after w q)
-  where
-    by : (κ : TransferAction Request) (d d′ : Transfer) → After κ d d′ → openIn d′ ≡ openAfter (λ u. u) κ (openIn d)
-    by resets d d′ h = rw h
-    by (starts t) d d′ h = rw (h .0, h .1)
-    by (steps true) d d′ h = rw (h .2, h .3)
-    by (steps false) d d′ h = rw (h .2, h .3)
-    by none d d′ h = rw h
+-- Of any machine whose actions tell of the transfer as `After` says:
+module _ {Access Answer : Type 0} (machine : World → Access → Outcome Answer World) (actionOf : Entry Access Answer → TransferAction Request)
+    (quiet : Request → Entry Access Answer → Bool)
+    (after : (w : World) (q : Access) → After (actionOf (entryAt machine w q)) (w .card .transfer) (machine w q .world .card .transfer)) where
+  pub after-follows : Follows machine actionOf quiet opened
+  after-follows w q = by (actionOf (entryAt machine w q)) (w .card .transfer) (machine w q .world .card .transfer) (after w q)
+    where
+      by : (κ : TransferAction Request) (d d′ : Transfer) → After κ d d′ → openIn d′ ≡ openAfter (λ u. u) κ (openIn d)
+      by resets d d′ h = rw h
+      by (starts t) d d′ h = rw (h .0, h .1)
+      by (steps true) d d′ h = rw (h .2, h .3)
+      by (steps false) d d′ h = rw (h .2, h .3)
+      by none d d′ h = rw h
 
--- only a running transfer steps
-pub step-open : (w : World) (q : Access) (b : Bool) → actionOf (entryAt access w q) ≡ steps b → opened w ≢ []
-step-open w q b h e =
-    let a : After (steps b) (w .card .transfer) (access w q .world .card .transfer) = rw h at (transfer-after w q) in
-    let r : openIn (w .card .transfer) ≡ a .0 ∷ [] = ap openIn (a .2) in
-    let z : _≡_ {A = ℕ} 0 1 = cc in
-    omega arith
+  -- only a running transfer steps
+  pub after-open : (w : World) (q : Access) (b : Bool) → actionOf (entryAt machine w q) ≡ steps b → opened w ≢ []
+  after-open w q b h e =
+      let a : After (steps b) (w .card .transfer) (machine w q .world .card .transfer) = rw h at (after w q) in
+      let r : openIn (w .card .transfer) ≡ a .0 ∷ [] = ap openIn (a .2) in
+      let z : _≡_ {A = ℕ} 0 1 = cc in
+      omega arith
+
+pub follows : Follows access actionOf quiet opened
+follows = after-follows access actionOf quiet transfer-after

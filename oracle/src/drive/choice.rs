@@ -48,7 +48,7 @@ impl Builder<'_> {
     }
 
     /// An address of shared memory, near what a running transfer moves if one runs.
-    fn shared_address(&mut self) -> u32 {
+    pub fn shared_address(&mut self) -> u32 {
         let near = 4 * self.rng.below(10);
         match self.world.card.running {
             Some(Running { transfer, .. }) if self.rng.one_in(2) => {
@@ -59,7 +59,7 @@ impl Builder<'_> {
     }
 
     /// A PCI address: in the window, at one of its marks or just outside.
-    fn pci_address(&mut self) -> u32 {
+    pub fn pci_address(&mut self) -> u32 {
         let settings = self.settings();
         let inside = match settings.length {
             0 => 0,

@@ -1,6 +1,8 @@
-//! Accesses that drive a card: planned ones, faults and random ones, and what they reach.
+//! Accesses that drive a card: planned ones, faults and random ones, and what they reach; and lists
+//! of calls.
 
 pub mod builder;
+pub mod calls;
 mod choice;
 pub mod coverage;
 pub mod faults;

@@ -67,9 +67,9 @@ impl First {
 /// An abort range in the middle of the window.
 pub const MIDDLE: Settings = Settings::new(0x2000_0000, 256, 64, 128);
 /// The same in a small window.
-const SMALL: Settings = Settings::new(0x0000_1000, 64, 24, 40);
+pub const SMALL: Settings = Settings::new(0x0000_1000, 64, 24, 40);
 /// lo = hi: no abort range.
-const NO_ABORT: Settings = Settings::new(0xC000_0040, 128, 32, 32);
+pub const NO_ABORT: Settings = Settings::new(0xC000_0040, 128, 32, 32);
 /// base + length = 4,294,967,296, the abort range at the end.
 const TOP: Settings = Settings::new(4_294_967_040, 256, 192, 256);
 /// The same with the abort range in the middle.
@@ -198,7 +198,7 @@ fn entries(count: usize, seed: u64) -> VecDeque<u32> {
 }
 
 /// A sound record in the middle of its work.
-fn found() -> Card {
+pub fn found() -> Card {
     let (_, mut card) = fresh(MIDDLE);
     card.fifos[0] = entries(2, 10);
     card.fifos[2] = entries(30, 11);

@@ -1,6 +1,7 @@
 //! The vector files: what this program answers, as antt text that is proved to agree with the
 //! definitions.
 
+mod calls;
 pub mod fresh;
 pub mod pins;
 mod runs;
@@ -8,6 +9,7 @@ pub mod sound;
 pub mod source;
 mod text;
 mod uses;
+mod worlds;
 
 use crate::stored::Stored;
 
@@ -41,6 +43,8 @@ pub fn files() -> Vec<Stored> {
         .iter()
         .map(|run| File::new(run.name, run.text()))
         .collect();
+    let calls = calls::texts().into_iter();
+    files.extend(calls.map(|(name, text)| File::new(name, text)));
     files.push(File::new("SourceVectors", source::text()));
     files.push(File::new("PinVectors", pins::text()));
     files.push(File::new("SoundVectors", sound::text()));

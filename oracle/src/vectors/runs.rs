@@ -9,14 +9,11 @@ use crate::seeds::Seeds;
 use crate::settings::Settings;
 use crate::world::World;
 
-use super::text;
+use super::{text, worlds};
 
-const SEEDS: Seeds = Seeds::new(1, &NUMBERED);
+pub const SEEDS: Seeds = Seeds::new(1, &NUMBERED);
 /// A list has at least so many accesses.
 const LENGTH: usize = 50;
-
-/// How far from a mark of a memory its first bytes are random.
-const REACH: u32 = 20;
 
 /// A list with its answers, and the worlds before and after it.
 pub struct Run {
@@ -46,10 +43,12 @@ pub fn runs() -> Vec<Run> {
 fn build(plan: Plan, coverage: &mut Coverage) -> Run {
     let mut rng = Rng::new(SEEDS.of(plan.name));
     let given = plan.first.settings();
-    let marks = [0, given.lo, given.hi, given.length];
-    let shared = memory(plan.shared_length, &[0, plan.shared_length], &mut rng);
-    let window = memory(plan.window_length, &marks, &mut rng);
-    let first = plan.first.world(shared, window);
+    let first = worlds::first(
+        &plan.first,
+        plan.shared_length,
+        plan.window_length,
+        &mut rng,
+    );
     let mut builder = Builder::new(first.clone(), rng, coverage);
     builder.follow(&plan, LENGTH);
     Run {
@@ -61,30 +60,9 @@ fn build(plan: Plan, coverage: &mut Coverage) -> Run {
     }
 }
 
-/// Zeros, but for random bytes around some offsets.
-fn memory(length: u32, marks: &[u32], rng: &mut Rng) -> Vec<u8> {
-    let mut memory = vec![0; length as usize];
-    for mark in marks {
-        for offset in mark.saturating_sub(REACH)..mark.saturating_add(REACH) {
-            if let Some(byte) = memory.get_mut(offset as usize) {
-                *byte = rng.byte();
-            }
-        }
-    }
-    memory
-}
-
 impl Run {
     pub fn text(&self) -> String {
-        let first = match &self.settings {
-            Some(settings) => format!(
-                " freshWorld {} {} {}",
-                text::settings(settings),
-                text::bytes(&self.first.shared),
-                text::bytes(&self.first.window)
-            ),
-            None => world(&self.first),
-        };
+        let first = worlds::first_text(self.settings, &self.first);
         let entries = self
             .entries
             .iter()
@@ -94,24 +72,13 @@ impl Run {
              entries : List (Entry Access Answer)\nentries =\n{}\n\
              last : World\nlast ={}\n\n{AGREES}",
             text::entries(entries),
-            world(&self.last)
+            worlds::text(&self.last)
         );
         text::file(
             "a list of accesses with its answers, and what it leaves",
             &definitions,
         )
     }
-}
-
-fn world(world: &World) -> String {
-    [
-        "".to_string(),
-        "world".to_string(),
-        text::card(&world.card),
-        text::bytes(&world.shared),
-        text::bytes(&world.window),
-    ]
-    .join(&format!("\n{}", text::INDENT))
 }
 
 const AGREES: &str = "\

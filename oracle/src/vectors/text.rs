@@ -1,8 +1,10 @@
 //! Records, accesses and memories as antt text, in the layout of the formatter.
 
 use crate::access::{Access, Answer};
+use crate::call::Call;
 use crate::card::{Card, Mailboxes, Pair};
 use crate::decimal::decimal;
+use crate::dma::Dma;
 use crate::settings::Settings;
 use crate::transfer::{Running, Transfer};
 
@@ -114,6 +116,9 @@ fn changes(card: &Card) -> Vec<(&'static str, String)> {
         let running = format!("(running {} {moved})", request(transfer));
         changes.push(("withTransfer", running));
     }
+    if card.dma != untouched.dma {
+        changes.push(("withDma", dma(&card.dma)));
+    }
     changes
 }
 
@@ -123,6 +128,12 @@ fn pair(pair: &Pair) -> String {
 
 fn mail(mail: &Mailboxes) -> String {
     format!("(mail {} {} {})", mail.hldata, mail.lhdata, mail.written)
+}
+
+fn dma(dma: &Dma) -> String {
+    let numbers = decimal([dma.shared, dma.pci, dma.size]);
+    let owner = pair(&dma.owner);
+    format!("(dma {numbers} ({owner}) {} {})", dma.inhibit, dma.outward)
 }
 
 /// A memory in pieces: so many zeros, then these bytes.
@@ -151,4 +162,13 @@ fn leading_zeros(memory: &[u8]) -> usize {
 pub fn entry(access: &Access, answer: &Answer) -> String {
     let (access, answer) = (decimal(access.numbers()), decimal(answer.numbers()));
     format!("q {access} gives r {answer}")
+}
+
+/// A call: `d` and the numbers of a direct access, `g` and those of a register access.
+pub fn call(call: &Call, answer: &Answer) -> String {
+    let word = match call {
+        Call::Direct(_) => "d",
+        Call::Register(_) => "g",
+    };
+    format!("{word} {call} gets r {}", decimal(answer.numbers()))
 }

@@ -3,7 +3,7 @@
 use std::collections::BTreeSet;
 
 /// Modules, and what may be used of each.
-const OFFERED: [(&str, &[&str]); 12] = [
+const OFFERED: [(&str, &[&str]); 13] = [
     ("mathlib.Core.Path", &["refl"]),
     ("mathlib.Core.Bool", &["true", "false"]),
     ("mathlib.Core.List", &["List", "[]", "_∷_"]),
@@ -21,6 +21,7 @@ const OFFERED: [(&str, &[&str]); 12] = [
             "withMailboxes",
             "withInterrupts",
             "withTransfer",
+            "withDma",
         ],
     ),
     ("Rattle.model.specs.Runs", &["Entry"]),
@@ -28,12 +29,16 @@ const OFFERED: [(&str, &[&str]); 12] = [
         "Rattle.model.specs.Accesses",
         &["Access", "Answer", "access"],
     ),
+    ("Rattle.model.specs.Registers", &["registerAccess"]),
     (
         "Rattle.model.specs.Source",
         &["sharedMemory", "windowMemory", "source"],
     ),
     ("Rattle.model.specs.Pins", &["decode"]),
-    ("Rattle.model.specs.Bench", &["q", "r", "_gives_"]),
+    (
+        "Rattle.model.specs.Bench",
+        &["q", "r", "_gives_", "d", "g", "_gets_", "CallCase"],
+    ),
     (
         "Rattle.cases.specs.Vectors",
         &[
@@ -42,11 +47,13 @@ const OFFERED: [(&str, &[&str]); 12] = [
             "mail",
             "interrupts",
             "request",
+            "dma",
             "untouched",
             "world",
             "bytes",
             "part",
             "RunAgrees",
+            "CallsAgree",
             "SourceCase",
             "sourceCase",
             "SourcesAgree",
@@ -105,6 +112,14 @@ mod tests {
         let text = "x = q 1 gives r 0 ∷ y";
         let lines = "use mathlib.Core.List.{_∷_}\n\
                      use Rattle.model.specs.Bench.{q, r, _gives_}\n";
+        assert_eq!(uses(text), lines);
+    }
+
+    #[test]
+    fn calls_by_their_letters() {
+        let text = "x = d 1 gets r 0 ∷ g 0x04bc gets r 0 ∷ y";
+        let lines = "use mathlib.Core.List.{_∷_}\n\
+                     use Rattle.model.specs.Bench.{r, d, g, _gets_}\n";
         assert_eq!(uses(text), lines);
     }
 }

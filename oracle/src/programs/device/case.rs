@@ -1,9 +1,10 @@
 //! One case: its numbers, and what is answered.
 
-use crate::access::Access;
+use crate::call::Call;
 use crate::card::{fresh, Card, FIFO_DEPTH};
 use crate::decimal::line;
 use crate::drive::plans::First;
+use crate::rng::Rng;
 use crate::settings::Settings;
 use crate::source::source;
 use crate::transfer::{Running, Transfer};
@@ -13,6 +14,9 @@ use crate::world::World;
 const CARD_RECORD: u32 = 0;
 const FRESH_CARD: u32 = 1;
 const SOURCE_REQUESTS: u32 = 2;
+
+/// The top byte of a register access's first number is 1; a direct access's is 0.
+const REGISTER_ACCESS: u32 = 1 << 24;
 
 /// What stands in standard input, and what must stand in standard output.
 pub struct Case {
@@ -45,6 +49,11 @@ impl Memories {
         bytes(self.seed + 1, self.window_length)
     }
 
+    /// What draws for the case of these memories.
+    pub fn rng(&self) -> Rng {
+        Rng::new(self.seed.into())
+    }
+
     pub fn world(&self, first: &First) -> World {
         first.world(self.shared(), self.window())
     }
@@ -66,17 +75,17 @@ fn digest(bytes: &[u8]) -> u32 {
 }
 
 impl Case {
-    /// Accesses to a card, and what they leave.
-    pub fn of_accesses(first: &First, memories: &Memories, accesses: &[Access]) -> Case {
-        let head = |what| head(what, &first.settings(), memories, accesses.len());
+    /// Calls to a card, and what they leave.
+    pub fn of_calls(first: &First, memories: &Memories, calls: &[Call]) -> Case {
+        let head = |what| head(what, &first.settings(), memories, calls.len());
         let (mut numbers, mut text) = match first {
             First::Record(card) => ([head(CARD_RECORD), record(card)].concat(), String::new()),
             First::Fresh(settings) => (head(FRESH_CARD), line([fresh(*settings).0.into()])),
         };
         let mut world = memories.world(first);
-        for access in accesses {
-            numbers.extend(packed(access));
-            text += &line(world.access(*access).numbers());
+        for call in calls {
+            numbers.extend(packed(call));
+            text += &line(world.call(*call).numbers());
         }
         text += &world_text(&world);
         Case { numbers, text }
@@ -119,6 +128,8 @@ fn record(card: &Card) -> Vec<u32> {
     let mut transfer = running(card);
     transfer.resize(6, 0);
     numbers.extend(transfer);
+    let [shared, pci, size, host, local, inhibit, outward] = dma(card);
+    numbers.extend([shared, pci, size, host + 2 * local, inhibit, outward]);
     numbers
 }
 
@@ -136,9 +147,26 @@ fn running(card: &Card) -> Vec<u32> {
     vec![1, direction, shared, pci, size, moved]
 }
 
-fn packed(access: &Access) -> [u32; 4] {
-    let [kind, side, s, a, b, c] = access.numbers();
-    [kind | side << 8 | s << 16, a, b, c]
+/// The DMA registers as they are stored, with a number for each flag.
+fn dma(card: &Card) -> [u32; 7] {
+    let dma = &card.dma;
+    let flags = [dma.owner.host, dma.owner.local, dma.inhibit, dma.outward];
+    let [host, local, inhibit, outward] = flags.map(u32::from);
+    [dma.shared, dma.pci, dma.size, host, local, inhibit, outward]
+}
+
+fn packed(call: &Call) -> [u32; 4] {
+    match call {
+        Call::Direct(access) => {
+            let [kind, side, s, a, b, c] = access.numbers();
+            [kind | side << 8 | s << 16, a, b, c]
+        }
+        Call::Register(access) => {
+            let [direction, side] = [access.direction, access.side].map(u32::from);
+            let first = direction | side << 8 | REGISTER_ACCESS;
+            [first, access.offset, access.dword, 0]
+        }
+    }
 }
 
 fn request(transfer: &Transfer) -> [u32; 4] {
@@ -159,5 +187,6 @@ fn world_text(world: &World) -> String {
     text += &line(mailboxes(card));
     text += &line(card.register_numbers());
     text += &line(running(card));
+    text += &line(dma(card));
     text + &line([digest(&world.shared), digest(&world.window)])
 }

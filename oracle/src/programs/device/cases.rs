@@ -1,9 +1,11 @@
-//! The cases: what a replay cannot reach, then planned and random lists, then source requests.
+//! The cases: what a replay cannot reach, then planned and random lists, then source requests, then
+//! lists of calls.
 
 use std::collections::BTreeSet;
 
 use crate::access::{kind, Access};
 use crate::arbitrary;
+use crate::call::Call;
 use crate::card::{fresh, Card, FIFOS, PAIRS};
 use crate::drive::builder::Builder;
 use crate::drive::coverage::{required, Coverage};
@@ -17,6 +19,7 @@ use crate::settings::{Settings, LENGTH_LIMIT};
 use crate::transfer::{Running, Transfer, SHARED_LENGTH};
 use crate::vectors::{fresh as settings_cases, sound, source};
 
+use super::calls;
 use super::case::{Case, Memories};
 
 const SEED: u64 = 400;
@@ -26,7 +29,7 @@ const RANDOM: usize = 24;
 const RANDOM_LISTS: usize = 120;
 const RANDOM_SOURCES: usize = 60;
 
-const LARGEST: Settings = Settings::new(0xFFFF_0000, 65_536, 32_768, 49_152);
+pub const LARGEST: Settings = Settings::new(0xFFFF_0000, 65_536, 32_768, 49_152);
 
 /// Where the memories' numbers of each section begin. A section that is not named here begins at
 /// a number of its name.
@@ -64,14 +67,14 @@ const LIST_SEEDS: Seeds = Seeds::new(SEED, &NUMBERED);
 /// The cases, in sections. Further cases go to the end of a section, or into a new section: the
 /// memories and draws of the others stay.
 #[derive(Default)]
-struct Cases {
+pub struct Cases {
     cases: Vec<Case>,
     /// Of the next case's memories.
     number: u32,
 }
 
 impl Cases {
-    fn section(&mut self, name: &str) {
+    pub fn section(&mut self, name: &str) {
         let known = FIRSTS.iter().find(|(known, _)| *known == name);
         self.number = match known {
             Some((_, first)) => *first,
@@ -79,15 +82,27 @@ impl Cases {
         };
     }
 
-    fn memories(&mut self, shared_length: u32, window_length: u32) -> Memories {
+    pub fn memories(&mut self, shared_length: u32, window_length: u32) -> Memories {
         let number = self.number;
         self.number += 1;
         Memories::new(number, shared_length, window_length)
     }
 
-    fn add_accesses(&mut self, first: &First, memories: &Memories, accesses: &[Access]) {
-        self.cases
-            .push(Case::of_accesses(first, memories, accesses));
+    /// Direct accesses. A record that is given has any DMA registers, drawn by themselves.
+    fn add_accesses(&mut self, first: First, memories: &Memories, accesses: &[Access]) {
+        let first = match first {
+            First::Record(card) => First::Record(Card {
+                dma: arbitrary::dma(&mut memories.rng()),
+                ..card
+            }),
+            fresh => fresh,
+        };
+        let calls: Vec<Call> = accesses.iter().copied().map(Call::from).collect();
+        self.add_calls(&first, memories, &calls);
+    }
+
+    pub fn add_calls(&mut self, first: &First, memories: &Memories, calls: &[Call]) {
+        self.cases.push(Case::of_calls(first, memories, calls));
     }
 
     fn add_requests(&mut self, settings: Settings, memories: &Memories, transfers: &[Transfer]) {
@@ -100,6 +115,10 @@ fn number(seeds: &Seeds, name: &str) -> u32 {
     (seeds.of(name) % NUMBER_LIMIT) as u32
 }
 
+pub fn list_memories(name: &str, shared_length: u32, window_length: u32) -> Memories {
+    Memories::new(number(&LIST_NUMBERS, name), shared_length, window_length)
+}
+
 pub fn cases() -> Vec<Case> {
     let mut cases = Cases::default();
     records(&mut cases);
@@ -109,6 +128,7 @@ pub fn cases() -> Vec<Case> {
     random(&mut cases);
     sources(&mut cases);
     random_sources(&mut cases);
+    calls::add(&mut cases);
     cases.cases
 }
 
@@ -172,7 +192,7 @@ fn add_records(cases: &mut Cases, cards: Vec<Card>) -> usize {
             every_kind(&settings)
         };
         let memories = cases.memories(SHARED_LENGTH, settings.length.min(LENGTH_LIMIT));
-        cases.add_accesses(&First::Record(card), &memories, &accesses);
+        cases.add_accesses(First::Record(card), &memories, &accesses);
     }
     unsound
 }
@@ -224,7 +244,7 @@ fn lengths(cases: &mut Cases) {
     let mut add = |settings: Settings, shared_length, window_length| {
         let memories = cases.memories(shared_length, window_length);
         let accesses = every_kind(&settings);
-        cases.add_accesses(&First::Fresh(settings), &memories, &accesses);
+        cases.add_accesses(First::Fresh(settings), &memories, &accesses);
     };
     for shared in [0, 4, 8192, 16_380, 16_383, 16_385, 16_388, 32_768, 65_536] {
         add(MIDDLE, shared, MIDDLE.length);
@@ -264,11 +284,10 @@ fn settings(cases: &mut Cases) {
         if !passes {
             lengths.insert(settings.length.min(LENGTH_LIMIT));
         }
-        let first = First::Fresh(settings);
         let accesses = [probe(&given), probe(&settings)].concat();
         for length in lengths {
             let memories = cases.memories(SHARED_LENGTH, length);
-            cases.add_accesses(&first, &memories, &accesses);
+            cases.add_accesses(First::Fresh(settings), &memories, &accesses);
         }
     }
 }
@@ -279,14 +298,13 @@ fn planned(cases: &mut Cases) {
     let mut coverage = Coverage::default();
     for mut plan in plans() {
         plan.faults = plan.faults.map(|_| Faults::ALL);
-        let number = number(&LIST_NUMBERS, plan.name);
-        let memories = Memories::new(number, plan.shared_length, plan.window_length);
+        let memories = list_memories(plan.name, plan.shared_length, plan.window_length);
         let world = memories.world(&plan.first);
         let rng = Rng::new(LIST_SEEDS.of(plan.name));
         let mut builder = Builder::new(world, rng, &mut coverage);
         builder.follow(&plan, PLANNED);
         let accesses = builder.accesses();
-        cases.add_accesses(&plan.first, &memories, &accesses);
+        cases.add_accesses(plan.first, &memories, &accesses);
     }
     coverage.assert_reached(required::facts());
 }
@@ -305,7 +323,7 @@ fn random(cases: &mut Cases) {
             builder.random();
         }
         let accesses = builder.accesses();
-        cases.add_accesses(&first, &memories, &accesses);
+        cases.add_accesses(first, &memories, &accesses);
     }
 }
 
