@@ -1,5 +1,6 @@
 //! The seventeen kinds of access.
 
+use crate::bays;
 use crate::card::{Card, Side, FIFO_DEPTH};
 use crate::dword::{self, ALL_LANES};
 use crate::interrupts::event;
@@ -29,8 +30,6 @@ pub mod kind {
 const EMPTY_TAKE: u32 = 4_294_967_295;
 /// Bit 24 of a mailbox write.
 const MAILBOX_RAISE: u32 = 1 << 24;
-/// "byte 0 is a bay index, 0 to 23"
-const LAST_BAY: u32 = 23;
 
 /// V of a step.
 const MOVED_ONE: u32 = 1;
@@ -230,16 +229,17 @@ impl Card {
         (0, 0)
     }
 
-    /// "A read gives the mailbox addressed to the caller." "X is that label on a host read if the
-    /// mailbox was written since reset and byte 0 is at most 23; otherwise 0."
+    /// "A read gives the mailbox addressed to the caller." "On local to host, byte 0 is a bay
+    /// index, 0 to 23." "X is that label on a host read if the mailbox was written since reset and
+    /// byte 0 is at most 23; otherwise 0."
     fn mailbox_read(&self, caller: Side) -> (u32, u32) {
         match caller {
             Side::Local => (self.mailboxes.hldata, 0),
             Side::Host => {
                 let data = self.mailboxes.lhdata;
-                let bay = data & 0xFF;
-                let labelled = self.mailboxes.written && bay <= LAST_BAY;
-                (data, if labelled { bay + 1 } else { 0 })
+                let [byte_0, ..] = data.to_le_bytes();
+                let label = bays::label(byte_0).filter(|_| self.mailboxes.written);
+                (data, label.map_or(0, u32::from))
             }
         }
     }

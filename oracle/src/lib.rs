@@ -3,6 +3,7 @@
 
 pub mod access;
 pub mod arbitrary;
+pub mod bays;
 pub mod call;
 pub mod card;
 pub mod convert;

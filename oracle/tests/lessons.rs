@@ -1,13 +1,14 @@
 //! The tables of docs/LESSONS.md are the files of the lessons: the first column is the list of the
 //! trace, the last one what the replay writes of it. Register accesses are in no trace: a table of
-//! calls is the stored list of that lesson.
+//! calls is the stored list of that lesson. The picture of the bays has each index and label at its
+//! row and column.
 
 mod files;
 
 use std::path::Path;
 
 use files::{entries, stem, text, ROOT};
-use oracle::zero_in_registers;
+use oracle::{bays, zero_in_registers};
 
 /// How the header of a table begins.
 const ACCESSES: &str = "| kind side S A B C |";
@@ -95,4 +96,34 @@ fn the_table_of_calls_is_the_stored_list() {
         tables(&document, CALLS),
         [(calls.collect(), answers.collect())]
     );
+}
+
+/// The numbers in a line of the picture, if each of its cells is this word and a number.
+fn cells(line: &str, word: &str) -> Option<Vec<u8>> {
+    let (_, cells) = line.strip_suffix('│')?.split_once('│')?;
+    let number = |cell: &str| cell.trim().strip_prefix(word)?.trim().parse().ok();
+    cells.split('│').map(number).collect()
+}
+
+/// The lines of the picture whose cells are this word and a number.
+fn pictured(document: &str, word: &str) -> Vec<Vec<u8>> {
+    let lines = document.lines();
+    lines.filter_map(|line| cells(line, word)).collect()
+}
+
+/// "four rows and six columns"
+fn by_place(number: fn(u8, u8) -> u8) -> [[u8; 6]; 4] {
+    [0, 1, 2, 3].map(|row| [0, 1, 2, 3, 4, 5].map(|column| number(row, column)))
+}
+
+#[test]
+fn the_picture_is_the_bays() {
+    let document = text(&Path::new(ROOT).join("docs/LESSONS.md"));
+    let (labels, indexes) = (pictured(&document, "label "), pictured(&document, "index "));
+    assert_eq!(labels, by_place(|row, column| 6 * row + column + 1));
+    assert_eq!(indexes, by_place(|row, column| 4 * column + row));
+    for (label, index) in labels.concat().into_iter().zip(indexes.concat()) {
+        assert_eq!(bays::label(index), Some(label));
+        assert_eq!(bays::index(label), Some(index));
+    }
 }

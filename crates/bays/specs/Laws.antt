@@ -5,7 +5,8 @@ use Prim.Native.Nat.{_%_}
 use lib.Dec.{leb}
 use Rattle.model.specs.Choice.{if_then_else_}
 use Rattle.model.specs.Sides.{host}
-use Rattle.model.specs.Mailboxes.{Mailboxes, bayLabel, labelFor}
+use Rattle.model.specs.Bays.{bayLabel}
+use Rattle.model.specs.Mailboxes.{Mailboxes, labelFor}
 use Rattle.bays.specs.Bridge.{labelAt}
 
 -- on a host read it is the label for byte 0, if the mailbox was written since reset

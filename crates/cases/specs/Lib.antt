@@ -39,5 +39,6 @@ pub mod CallsToUnsoundCard
 pub mod CallsWithShortMemory
 pub mod SourceVectors
 pub mod PinVectors
+pub mod BayVectors
 pub mod SoundVectors
 pub mod FreshVectors

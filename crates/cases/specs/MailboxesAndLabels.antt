@@ -26,9 +26,9 @@ entries =
     ∷ q 9 1 0 0 0 0 gives r 0 0 0
     ∷ q 10 0 0 0 0 0 gives r 0 0 1
     ∷ q 9 1 0 0 1 0 gives r 0 0 0
-    ∷ q 10 0 0 0 0 0 gives r 0 1 2
+    ∷ q 10 0 0 0 0 0 gives r 0 1 7
     ∷ q 9 1 0 0 22 0 gives r 0 0 0
-    ∷ q 10 0 0 0 0 0 gives r 0 22 23
+    ∷ q 10 0 0 0 0 0 gives r 0 22 18
     ∷ q 9 1 0 0 24 0 gives r 0 0 0
     ∷ q 10 0 0 0 0 0 gives r 0 24 0
     ∷ q 9 1 0 0 255 0 gives r 0 0 0

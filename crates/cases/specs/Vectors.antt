@@ -1,12 +1,14 @@
 -- The words that the stored equations are written in, and what each kind of equation says.
 use mathlib.Core.Path.{_≡_}
-use mathlib.Core.Bool.{Bool, false}
+use mathlib.Core.Bool.{Bool, true, false}
 use mathlib.Core.List.{List, [], _∷_, _++_, map}
 use Prim.Native.Nat.{ℕ}
 use lib.ListN.{replicate}
 use Rattle.model.specs.Settings.{Settings}
 use Rattle.model.specs.Arbitration.{Pair}
-use Rattle.model.specs.Mailboxes.{Mailboxes}
+use Rattle.model.specs.Sides.{host}
+use Rattle.model.specs.Bays.{Found, bayIndex}
+use Rattle.model.specs.Mailboxes.{Mailboxes, labelFor}
 use Rattle.model.specs.Interrupts.{Interrupts}
 use Rattle.model.specs.Transfer.{Request, idle}
 use Rattle.model.specs.Dma.{Dma}
@@ -87,6 +89,18 @@ pinCase mode pins dq number lanes dword = record { mode = mode; pins = pins; dq 
 
 abbrev pub PinsAgree : List PinCase → Type 0
 PinsAgree cases = map (λ c. decode (c .mode) (c .pins) (c .dq)) cases ≡ map (λ c. c .expected) cases
+
+-- a number; as an index, the label that a host read of it has; as a label, the index that it belongs to
+pub record BayCase : Type 0 where
+  pub number : ℕ
+  pub label : ℕ
+  pub index : Found
+
+abbrev pub bayCase : (number label : ℕ) → (index : Found) → BayCase
+bayCase number label index = record { number = number; label = label; index = index }
+
+abbrev pub BaysAgree : List BayCase → Type 0
+BaysAgree cases = map (λ c. bayCase (c .number) (labelFor host (mail 0 (c .number) true)) (bayIndex (c .number))) cases ≡ cases
 
 -- a record, and whether it is sound
 pub record SoundCase : Type 0 where

@@ -1,5 +1,6 @@
 //! What each test program reads, and what it must write.
 
+mod bays;
 mod convert;
 mod device;
 mod pins;
@@ -10,7 +11,7 @@ use crate::stored::Stored;
 
 pub use replay::{lessons, long_list, long_trace, FEWEST_RECORDS};
 
-/// A program by the name of its crate.
+/// A program by the name of its crate. One that reads nothing has no `stdin`.
 struct Program {
     name: &'static str,
     stdin: Vec<u8>,
@@ -25,7 +26,12 @@ fn change_bits(record: &mut [u8], changes: &[(usize, u8)]) {
 }
 
 pub fn files() -> Vec<Stored> {
-    let programs = [pins::program(), trace::program(), device::program()];
+    let programs = [
+        pins::program(),
+        bays::program(),
+        trace::program(),
+        device::program(),
+    ];
     programs
         .into_iter()
         .chain(replay::programs())
@@ -37,6 +43,7 @@ pub fn files() -> Vec<Stored> {
                 Stored::new(path("stdout"), program.stdout),
             ]
         })
+        .filter(|file| !file.bytes.is_empty())
         .chain(lessons::files())
         .collect()
 }

@@ -59,7 +59,7 @@ pub fn text() -> String {
     let cases = CASES
         .iter()
         .map(|(settings, passes)| case(settings, *passes));
-    let definitions = text::agreement("FreshCase", "FreshAgrees", "freshCard", cases);
+    let definitions = text::agreement("FreshCase", "FreshAgrees", "cases freshCard", cases);
     text::file(
         "settings, and the number and the card that they give",
         &definitions,

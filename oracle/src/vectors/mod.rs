@@ -1,6 +1,7 @@
 //! The vector files: what this program answers, as antt text that is proved to agree with the
 //! definitions.
 
+mod bays;
 mod calls;
 pub mod fresh;
 pub mod pins;
@@ -47,6 +48,7 @@ pub fn files() -> Vec<Stored> {
     files.extend(calls.map(|(name, text)| File::new(name, text)));
     files.push(File::new("SourceVectors", source::text()));
     files.push(File::new("PinVectors", pins::text()));
+    files.push(File::new("BayVectors", bays::text()));
     files.push(File::new("SoundVectors", sound::text()));
     files.push(File::new("FreshVectors", fresh::text()));
     let modules: String = files

@@ -55,7 +55,7 @@ pub fn text() -> String {
     let lines = cases()
         .into_iter()
         .map(|(mode, pins, data)| line(mode, pins, data));
-    let agreement = text::agreement("PinCase", "PinsAgree", "decode", lines);
+    let agreement = text::agreement("PinCase", "PinsAgree", "cases decode", lines);
     let definitions = format!("-- mode, pins, data; number, lanes, dword\n{agreement}");
     text::file("local pins to lanes and dword", &definitions)
 }

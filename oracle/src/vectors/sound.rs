@@ -224,6 +224,6 @@ pub fn text() -> String {
         .flat_map(|section| section.cases.iter().map(case))
         .collect();
     assert!(cases.len() >= 60);
-    let definitions = text::agreement("SoundCase", "SoundnessAgrees", "sound", cases);
+    let definitions = text::agreement("SoundCase", "SoundnessAgrees", "cases sound", cases);
     text::file("records, and whether they are sound", &definitions)
 }

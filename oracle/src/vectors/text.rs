@@ -49,11 +49,12 @@ fn bracketed<T>(items: impl IntoIterator<Item = T>, text: impl Fn(T) -> String) 
     }
 }
 
-/// Cases of a type, and that they agree with a definition, by computation.
+/// Cases of a type, and that they agree with a definition, by computation: `unfolded` names what
+/// does not unfold by itself.
 pub fn agreement(
     case: &str,
     agree: &str,
-    definition: &str,
+    unfolded: &str,
     cases: impl IntoIterator<Item = String>,
 ) -> String {
     let cases = entries(cases);
@@ -62,7 +63,7 @@ pub fn agreement(
          cases =\n\
          {cases}\n\
          agrees : {agree} cases\n\
-         unfolding cases {definition}\n\
+         unfolding {unfolded}\n\
          agrees = refl\n"
     )
 }

@@ -3,7 +3,7 @@
 use std::collections::BTreeSet;
 
 /// Modules, and what may be used of each.
-const OFFERED: [(&str, &[&str]); 13] = [
+const OFFERED: [(&str, &[&str]); 14] = [
     ("mathlib.Core.Path", &["refl"]),
     ("mathlib.Core.Bool", &["true", "false"]),
     ("mathlib.Core.List", &["List", "[]", "_∷_"]),
@@ -35,6 +35,7 @@ const OFFERED: [(&str, &[&str]); 13] = [
         &["sharedMemory", "windowMemory", "source"],
     ),
     ("Rattle.model.specs.Pins", &["decode"]),
+    ("Rattle.model.specs.Bays", &["at", "noBay"]),
     (
         "Rattle.model.specs.Bench",
         &["q", "r", "_gives_", "d", "g", "_gets_", "CallCase"],
@@ -60,6 +61,9 @@ const OFFERED: [(&str, &[&str]); 13] = [
             "PinCase",
             "pinCase",
             "PinsAgree",
+            "BayCase",
+            "bayCase",
+            "BaysAgree",
             "SoundCase",
             "soundCase",
             "SoundnessAgrees",
