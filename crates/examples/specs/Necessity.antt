@@ -57,7 +57,7 @@ abbrev pub quietBut : Condition → Request → Entry Access Answer → Bool
 quietBut c t e = stillBut c t (touches e)
 
 abbrev pub quietCallBut : Condition → Request → Entry Call Reply → Bool
-quietCallBut c t e = stillBut c t (callTouches (e .access) (e .answer .answer))
+quietCallBut c t e = stillBut c t (callTouches (e .access) (e .answer .told .answer))
 
 -- A CLAIM WITHOUT THE CONDITION IS FALSE
 
