@@ -1,4 +1,5 @@
 -- What contracts of bursts cite: a phase and an answer of the code in the model's words, and the checks.
+use mathlib.Core.Path.{_≡_}
 use mathlib.Core.Bool.{Bool, not, _||_}
 use mathlib.Core.List.{List, [], _∷_, map}
 use Prim.Native.Nat.{ℕ, _/_, _%_}
@@ -8,7 +9,9 @@ use Rattle.model.specs.Choice.{every}
 use Rattle.model.specs.Checks.{Check, _for_, above}
 use Rattle.model.specs.Sides.{local, sideOf, notBy}
 use Rattle.model.specs.Accesses.{Answer}
-use Rattle.model.specs.Bursts.{Phase, Told}
+use Rattle.model.specs.Bursts.{Phase, Burst, Told, burst}
+use Rattle.card.specs.declared.Card.{Card}
+use Rattle.card.specs.Bridge.{worldAs}
 use Rattle.bursts.specs.declared.Total.{Total}
 
 -- pins above the 32 bits of data
@@ -37,3 +40,8 @@ checksOf unfit side mode ps short =
     ∷ 12 for (eqb mode 2 || above 3 mode || above 65536 (length ps))
     ∷ 4 for not (pinsFit ps)
     ∷ 14 for short ∷ []
+
+-- The promise of `bursts::write` and of `bursts::read`, as one property of a call: from a card and memories m and w to an answer, the list as it is
+-- left and shared memory m′.
+abbrev pub Bursted : Card → Burst → (m w : List ℕ) → Total → (list m′ : List ℕ) → Type 0
+Bursted card b m w t list m′ = record { answer = toldAs t list; world = worldAs card m′ w } ≡ burst (worldAs card m w) b

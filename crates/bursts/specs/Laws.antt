@@ -14,7 +14,7 @@ use Rattle.model.specs.Choice.{if_then_else_}
 use Rattle.model.specs.Checks.{refusal, above, sharedLength}
 use Rattle.model.specs.Runs.{Entry}
 use Rattle.model.specs.Accesses.{Access, Answer, fit}
-use Rattle.model.specs.Bursts.{Phase, Way, reads, writes, Burst, advances, next, lastDword, short, listAfter, burst}
+use Rattle.model.specs.Bursts.{Phase, Way, reads, writes, Burst, advances, next, lastDword, short, listAfter}
 use Rattle.model.specs.TestLaws.{no-both, and-left, and-right, or-right, if-case}
 use Rattle.model.specs.CheckLaws.{passed-all}
 use Rattle.model.specs.Soundness.{fit-parts}
@@ -22,7 +22,7 @@ use Rattle.model.specs.BurstLaws.{valueIn, leftBy, left-length, entriesFrom, sh
 use Rattle.card.specs.declared.Card.{Card}
 use Rattle.card.specs.Bridge.{worldAs}
 use Rattle.bursts.specs.declared.Total.{Total}
-use Rattle.bursts.specs.Bridge.{phaseAs, phasesAs, totalAs, toldAs, pinsFit, checksOf}
+use Rattle.bursts.specs.Bridge.{phaseAs, phasesAs, totalAs, pinsFit, checksOf, Bursted}
 
 -- PHASES
 
@@ -180,18 +180,15 @@ pub numbered : (card : Card) (m w : List ℕ) (way : Way) (side mode start : ℕ
     n ≡ burstRefusal (worldAs card m w) (record { way = way; side = side; mode = mode; start = start; phases = phasesAs ns })
 numbered card m w way side mode start ns h f s = h ∙ rw (f, s, phases-count ns)
 
-module _ (card : Card) (m w : List ℕ) (b : Burst) {n : ℕ} (h : n ≡ burstRefusal (worldAs card m w) b) where
-  pub refused-burst : {t : Total} → (n ≡ 0 → ⊥) → totalAs t ≡ record { number = n; v = 0; x = 0 } →
-      record { answer = toldAs t (listAfter (b .way) []); world = worldAs card m w } ≡ burst (worldAs card m w) b
-  refused-burst {t} z e = by n h z e
+module _ (card : Card) (m w : List ℕ) (b : Burst) {n : ℕ} (h : n ≡ burstRefusal (worldAs card m w) b) {t : Total} where
+  pub refused-burst : (n ≡ 0 → ⊥) → totalAs t ≡ record { number = n; v = 0; x = 0 } → Bursted card b m w t (listAfter (b .way) []) m
+  refused-burst z e = by n h z e
     where
-      by : (n : ℕ) → n ≡ burstRefusal (worldAs card m w) b → (n ≡ 0 → ⊥) → totalAs t ≡ record { number = n; v = 0; x = 0 } →
-          record { answer = toldAs t (listAfter (b .way) []); world = worldAs card m w } ≡ burst (worldAs card m w) b
+      by : (n : ℕ) → n ≡ burstRefusal (worldAs card m w) b → (n ≡ 0 → ⊥) → totalAs t ≡ record { number = n; v = 0; x = 0 } → Bursted card b m w t (listAfter (b .way) []) m
       by zero h z e = absurd (z refl)
       by (suc n) h z e = rw (refused-is (worldAs card m w) b n (sym h), e)
 
-  pub done-burst : {t : Total} {m′ list : List ℕ} {done phases : ℕ} → n ≡ 0 → totalAs t ≡ record { number = if ltb done phases then 13 else 0; v = done; x = 0 } → phases ≡ length (b .phases) →
+  pub done-burst : {m′ list : List ℕ} {done phases : ℕ} → n ≡ 0 → totalAs t ≡ record { number = if ltb done phases then 13 else 0; v = done; x = 0 } → phases ≡ length (b .phases) →
       done ≡ length (entriesFrom (b .way) (b .mode) (b .start) (b .phases) m) → list ≡ listAfter (b .way) (entriesFrom (b .way) (b .mode) (b .start) (b .phases) m) →
-      m′ ≡ sharedFrom (b .way) (b .mode) (b .start) (b .phases) m →
-      record { answer = toldAs t list; world = worldAs card m′ w } ≡ burst (worldAs card m w) b
+      m′ ≡ sharedFrom (b .way) (b .mode) (b .start) (b .phases) m → Bursted card b m w t list m′
   done-burst z e p d l s = rw (accepted-is (worldAs card m w) b (sym h ∙ z), e, p, d, l, s)
