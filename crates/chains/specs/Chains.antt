@@ -22,8 +22,9 @@ use Rattle.card.specs.declared.Outcome.{Outcome}
 use Rattle.card.specs.Bridge.{newCardAs, worldAs}
 use Rattle.device.specs.Bridge.{Accessed}
 use Rattle.registers.specs.Bridge.{RegisterAccessed}
-use Rattle.bursts.specs.declared.Total.{Total}
-use Rattle.bursts.specs.Bridge.{toldAs, Bursted}
+use Rattle.phases.specs.declared.Total.{Total}
+use Rattle.phases.specs.Bridge.{toldAs}
+use Rattle.bursts.specs.Bridge.{Bursted}
 use Rattle.reordering.specs.Roles.{roles, moved, Undisturbed}
 use Rattle.reordering.specs.CallReordering.{Reply, noted, notedAction, quietCall, flat}
 use Rattle.reordering.specs.CallExchange.{calls-move}

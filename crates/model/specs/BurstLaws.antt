@@ -1,7 +1,7 @@
 -- Bursts, once over the modes: the single accesses of a burst that is not refused are all done, and how many there are is told by where its phases
 -- stand; each number is given exactly where its cause is the first that holds; a refusal changes nothing, and no burst changes the record.
 -- By induction over the phases, from the tables `advances` and `decode`.
-use mathlib.Core.Path.{_≡_, refl, ap, sym, subst, _∙_}
+use mathlib.Core.Path.{_≡_, refl, ap, sym, _∙_}
 use mathlib.Core.Logic.{_≢_, _↔_}
 use mathlib.Core.Bool.{Bool, true, false, not, _||_}
 use mathlib.Core.List.{List, [], _∷_, _++_, map}
@@ -10,16 +10,16 @@ use native.Mathlib.Omega.{arith}
 use lib.ListN.{length, getD}
 use lib.Seq.{drop-nil}
 use lib.Dec.{eqb, ltb, lit<, leb·suc-suc, eqb·suc-zero}
-use borrow.Author.Tests.{le-ltb, lt-ltb, ltb-true, ltb-false, eq-eqb, not-true, not-false}
-use Rattle.model.specs.Choice.{if_then_else_, every}
+use borrow.Author.Tests.{le-ltb, lt-ltb, ltb-true, ltb-false, not-true, not-false}
+use Rattle.model.specs.Choice.{if_then_else_}
 use Rattle.model.specs.Checks.{Check, _for_, refusal, First, above, misplaced, sharedLength}
 use Rattle.model.specs.Lanes.{readDword, writeDword}
 use Rattle.model.specs.Events.{bit}
 use Rattle.model.specs.State.{World}
-use Rattle.model.specs.Runs.{Outcome, Entry, Ran, run}
+use Rattle.model.specs.Runs.{Outcome, Entry, run}
 use Rattle.model.specs.Accesses.{Access, Answer, fit, access}
 use Rattle.model.specs.Pins.{lanes8, motorolaRows, lanesOf, Decoded, decode}
-use Rattle.model.specs.Bursts.{Phase, Way, reads, writes, Burst, advances, next, lastDword, single, singlesFrom, burstChecks, singles, Told, listAfter, total, burst}
+use Rattle.model.specs.Bursts.{Phase, Way, reads, writes, Burst, next, lastDword, single, singlesFrom, burstChecks, singles, Told, listAfter, total, burst}
 use Rattle.model.specs.TestLaws.{All, no-both, every-get, if-case, or-right}
 use Rattle.model.specs.CheckLaws.{Positive, passed-all, pass-refusal, refusal-append, first-given}
 use Rattle.model.specs.LaneLaws.{length-write}

@@ -2,7 +2,7 @@
 use mathlib.Core.Path.{_≡_, refl, sym, ap, _∙_, subst}
 use mathlib.Core.Logic.{_≢_}
 use mathlib.Core.Bool.{Bool, true, false, not, _||_}
-use mathlib.Core.List.{List, [], _∷_, _++_}
+use mathlib.Core.List.{List, [], _∷_}
 use Prim.Native.Nat.{ℕ, zero, suc}
 use native.Mathlib.Omega.{arith}
 use lib.ListN.{length}
@@ -11,9 +11,9 @@ use Rattle.model.specs.Choice.{if_then_else_, every}
 use Rattle.model.specs.Checks.{_for_, refusal, above}
 use Rattle.model.specs.Transfer.{Request}
 use Rattle.model.specs.State.{World}
-use Rattle.model.specs.Runs.{Outcome, Entry, run, entryAt}
-use Rattle.model.specs.Accesses.{Access, Answer, Kind, kindOf, numberOf, fit, checks, access}
-use Rattle.model.specs.Bursts.{Phase, Way, reads, writes, Burst, next, lastDword, single, singlesFrom, singles, burstChecks, Told, listAfter, total, burst}
+use Rattle.model.specs.Runs.{run, entryAt}
+use Rattle.model.specs.Accesses.{Access, kindOf, fit, access}
+use Rattle.model.specs.Bursts.{Phase, Way, reads, writes, Burst, next, lastDword, single, singlesFrom, singles, burstChecks, total, burst}
 use Rattle.model.specs.Calls.{bursting}
 use Rattle.model.specs.TestLaws.{All, and-left, and-right, every-append, if-case}
 use Rattle.model.specs.Soundness.{stays-fit}

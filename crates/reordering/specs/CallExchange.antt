@@ -29,7 +29,7 @@ use Rattle.model.specs.TestLaws.{All, no-both, if-case}
 use Rattle.model.specs.CheckLaws.{Pass}
 use Rattle.model.specs.RegisterLaws.{register-passed, flag-same}
 use Rattle.model.specs.BurstLaws.{burst-keeps}
-use Rattle.reordering.specs.Roles.{TransferAction, steps, none, roles, moved, Owned}
+use Rattle.reordering.specs.Roles.{steps, none, roles, moved, Owned}
 use Rattle.reordering.specs.Reordering.{Touch, starting, startTouches, doneTouches, disturbs, quiet, doneAction, actionOf}
 use Rattle.reordering.specs.CallReordering.{registerAction, callAction, Reply, noted, notedAction, isDma, doneHere, quietCall, CallsMove}
 use Rattle.reordering.specs.Moving.{Follows, Exchange, moved-same, moved-perm, owned}

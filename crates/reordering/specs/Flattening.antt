@@ -1,22 +1,22 @@
 -- Rule 3 where a burst counts as its single accesses: if the list with each burst replaced by them meets the premise, so does the list, and its steps move.
 -- By induction over the calls: a burst and its single accesses are nothing to the transfers, leave the same world, and are quiet alike.
 use mathlib.Core.Path.{_≡_, refl, sym, ap, _∙_, subst}
-use mathlib.Core.Bool.{Bool, true, false, not, _&&_, _||_, or-true}
+use mathlib.Core.Bool.{Bool, true, false, _&&_, _||_, or-true}
 use mathlib.Core.List.{List, [], _∷_, _++_, map}
-use Prim.Native.Nat.{ℕ, zero, suc}
+use Prim.Native.Nat.{ℕ}
 use lib.Dec.{eqb}
 use Rattle.model.specs.Choice.{if_then_else_, every}
 use Rattle.model.specs.Transfer.{Request}
 use Rattle.model.specs.State.{World, freshWorld}
-use Rattle.model.specs.Runs.{Outcome, Entry, Ran, run, entryAt}
+use Rattle.model.specs.Runs.{Entry, run, entryAt}
 use Rattle.model.specs.Accesses.{Access, Answer, fit, access}
 use Rattle.model.specs.Bursts.{Burst, singles, burst}
 use Rattle.model.specs.Calls.{Call, direct, register, bursting, plain, call}
 use Rattle.model.specs.TestLaws.{All, and-left, and-right, and-true, every-map}
 use Rattle.model.specs.BurstLaws.{unfit-run}
-use Rattle.reordering.specs.Roles.{TransferAction, none, Role, startOf, stepOf, neither, entryOf, roleOf, openAfter, countAfter, rolesFrom, roles, stepsOf, moved, Undisturbed}
-use Rattle.reordering.specs.Reordering.{quiet, actionOf}
-use Rattle.reordering.specs.CallReordering.{Reply, noted, notedAction, countsAs, quietCall, flatCall, flat, FlatCallsMove}
+use Rattle.reordering.specs.Roles.{none, Role, startOf, stepOf, neither, entryOf, roleOf, openAfter, countAfter, rolesFrom, stepsOf}
+use Rattle.reordering.specs.Reordering.{actionOf}
+use Rattle.reordering.specs.CallReordering.{Reply, noted, notedAction, countsAs, quietCall, flat, FlatCallsMove}
 use Rattle.reordering.specs.BurstExchange.{counts-fit, counts-unfit, singles-inert, quiet-counts}
 use Rattle.reordering.specs.CallExchange.{calls-move}
 use Rattle.reordering.specs.Premise.{isOwn, isEmpty, calm, undisturbed, premise, tested}

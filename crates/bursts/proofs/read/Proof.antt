@@ -9,8 +9,9 @@ use Rattle.model.specs.Accesses.{fit}
 use Rattle.model.specs.Bursts.{Burst, reads}
 use Rattle.model.specs.BurstLaws.{burstRefusal}
 use Rattle.card.specs.Bridge.{worldAs}
-use Rattle.bursts.specs.Bridge.{phasesAs}
-use Rattle.bursts.specs.Laws.{phases-count, allowed, numbered, read-leaves, refused-burst, done-burst}
+use Rattle.phases.specs.Bridge.{phasesAs}
+use Rattle.phases.specs.Laws.{phases-count, read-leaves}
+use Rattle.bursts.specs.Laws.{allowed, numbered, refused-burst, done-burst}
 use borrow.Author.Needs.{needs}
 use Rattle.bursts.proofs.read.Statement.{statement}
 use Rattle.bursts.proofs.read.Tie as tie

@@ -1,10 +1,10 @@
--- `bursts::phase` meets its contract: 32 bits of data leave the pins as the quotient.
+-- `phases::phase` meets its contract: 32 bits of data leave the pins as the quotient.
 use native.Mathlib.Omega.{arith}
 use Prim.Native.Nat.{_<_}
 use borrow.Author.Needs.{needs}
-use Rattle.bursts.specs.Laws.{phase-is}
-use Rattle.bursts.proofs.phase.Statement.{statement}
-use Rattle.bursts.proofs.phase.Tie as tie
+use Rattle.phases.specs.Laws.{phase-is}
+use Rattle.phases.proofs.phase.Statement.{statement}
+use Rattle.phases.proofs.phase.Tie as tie
 
 returns : tie.Need-returns
 returns c =

@@ -1,14 +1,13 @@
--- `bursts::write_phases` meets its contract: the loop walks along the phases, and what it still has to write is what the single accesses still leave.
-use mathlib.Core.Path.{_≡_, sym, ap, _∙_}
+-- `phases::write_phases` meets its contract: the loop walks along the phases, and what it still has to write is what the single accesses still leave.
+use mathlib.Core.Path.{_∙_}
 use Prim.Native.Nat.{_-_, _≤_, _<_}
 use native.Mathlib.Omega.{arith}
 use lib.ListN.{length}
-use denote.Ref.{now}
 use borrow.Author.Needs.{needs}
 use Rattle.model.specs.Bursts.{writes, lastDword}
-use Rattle.bursts.specs.Laws.{pins-at, on, off, Walk, begins, goes-on, ends}
-use Rattle.bursts.proofs.write_phases.Statement.{statement}
-use Rattle.bursts.proofs.write_phases.Tie as tie
+use Rattle.phases.specs.Laws.{pins-at, on, off, Walk, begins, goes-on, ends}
+use Rattle.phases.proofs.write_phases.Statement.{statement}
+use Rattle.phases.proofs.write_phases.Tie as tie
 
 abbrev Inv-loop : tie.InvT-loop
 Inv-loop shared₀ mode start phases d₀ i₀ shared d i = Walk writes mode start phases shared₀ shared d i

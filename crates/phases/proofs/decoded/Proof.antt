@@ -1,8 +1,7 @@
--- `bursts::decoded` meets its contract: pins and data are those of the phase.
-use mathlib.Core.Path.{ap₂}
+-- `phases::decoded` meets its contract: pins and data are those of the phase.
 use borrow.Author.Needs.{needs}
-use Rattle.bursts.proofs.decoded.Statement.{statement}
-use Rattle.bursts.proofs.decoded.Tie as tie
+use Rattle.phases.proofs.decoded.Statement.{statement}
+use Rattle.phases.proofs.decoded.Tie as tie
 
 returns : tie.Need-returns
 returns c = rw (← c .before .before .pins-of .ensures, ← c .before .data-of .ensures) (c .decode .ensures)

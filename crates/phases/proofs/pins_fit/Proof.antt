@@ -1,14 +1,14 @@
--- `bursts::pins_fit` meets its contract: what the loop found so far, and what is still to be looked at, are the test of all phases.
-use mathlib.Core.Path.{_≡_, refl, sym, _∙_}
+-- `phases::pins_fit` meets its contract: what the loop found so far, and what is still to be looked at, are the test of all phases.
+use mathlib.Core.Path.{_≡_, refl}
 use mathlib.Core.Bool.{_&&_}
 use Prim.Native.Nat.{_-_, _≤_}
 use native.Mathlib.Omega.{arith}
 use lib.ListN.{length, drop}
 use borrow.Author.Needs.{needs}
-use Rattle.bursts.specs.Bridge.{phasesAs, pinsFit}
-use Rattle.bursts.specs.Laws.{pins-next, pins-seen}
-use Rattle.bursts.proofs.pins_fit.Statement.{statement}
-use Rattle.bursts.proofs.pins_fit.Tie as tie
+use Rattle.phases.specs.Bridge.{phasesAs, pinsFit}
+use Rattle.phases.specs.Laws.{pins-next, pins-seen}
+use Rattle.phases.proofs.pins_fit.Statement.{statement}
+use Rattle.phases.proofs.pins_fit.Tie as tie
 
 abbrev Inv-loop : tie.InvT-loop
 Inv-loop phases fit₀ i₀ fit i = (i ≤ length phases) × ((fit && pinsFit (phasesAs (drop i phases))) ≡ pinsFit (phasesAs phases))

@@ -1,8 +1,8 @@
--- `bursts::next` meets its contract: each branch by what the table says of the phase's pins.
+-- `phases::next` meets its contract: each branch by what the table says of the phase's pins.
 use borrow.Author.Needs.{needs}
-use Rattle.bursts.specs.Laws.{advanced, stayed}
-use Rattle.bursts.proofs.next.Statement.{statement}
-use Rattle.bursts.proofs.next.Tie as tie
+use Rattle.phases.specs.Laws.{advanced, stayed}
+use Rattle.phases.proofs.next.Statement.{statement}
+use Rattle.phases.proofs.next.Tie as tie
 
 returns : tie.Need-returns
 returns c = let a = c .before .before .before .args in advanced (a .mode) (a .d) (c .before .before .pins-of .ensures) (c .before .advances .ensures) (c .if1 .taken)

@@ -1,10 +1,10 @@
--- `bursts::Total::ended` meets its contract: the number is that of the one check.
+-- `phases::Total::ended` meets its contract: the number is that of the one check.
 use mathlib.Core.Path.{ap}
 use Prim.Native.Nat.{ℕ}
 use borrow.Author.Needs.{needs}
 use Rattle.model.specs.Accesses.{Answer}
-use Rattle.bursts.proofs.Total.ended.Statement.{statement}
-use Rattle.bursts.proofs.Total.ended.Tie as tie
+use Rattle.phases.proofs.Total.ended.Statement.{statement}
+use Rattle.phases.proofs.Total.ended.Tie as tie
 
 returns : tie.Need-returns
 returns c =

@@ -1,7 +1,7 @@
--- `bursts::write_phase` meets its contract: the lanes and the dword are those of the pins.
+-- `phases::write_phase` meets its contract: the lanes and the dword are those of the pins.
 use borrow.Author.Needs.{needs}
-use Rattle.bursts.proofs.write_phase.Statement.{statement}
-use Rattle.bursts.proofs.write_phase.Tie as tie
+use Rattle.phases.proofs.write_phase.Statement.{statement}
+use Rattle.phases.proofs.write_phase.Tie as tie
 
 returns : tie.Need-returns
 returns c =

@@ -1,7 +1,7 @@
--- `bursts::read_phase` meets its contract: the lanes are those of the pins.
+-- `phases::read_phase` meets its contract: the lanes are those of the pins.
 use borrow.Author.Needs.{needs}
-use Rattle.bursts.proofs.read_phase.Statement.{statement}
-use Rattle.bursts.proofs.read_phase.Tie as tie
+use Rattle.phases.proofs.read_phase.Statement.{statement}
+use Rattle.phases.proofs.read_phase.Tie as tie
 
 returns : tie.Need-returns
 returns c = rw (← c .before .decoded .ensures) (c .read-dword .ensures)

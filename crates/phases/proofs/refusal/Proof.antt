@@ -1,8 +1,8 @@
--- `bursts::refusal` meets its contract: the numbered checks are those of the definition, in its order.
+-- `phases::refusal` meets its contract: the numbered checks are those of the definition, in its order.
 use borrow.Author.Needs.{needs}
-use Rattle.bursts.specs.Laws.{phases-count}
-use Rattle.bursts.proofs.refusal.Statement.{statement}
-use Rattle.bursts.proofs.refusal.Tie as tie
+use Rattle.phases.specs.Laws.{phases-count}
+use Rattle.phases.proofs.refusal.Statement.{statement}
+use Rattle.phases.proofs.refusal.Tie as tie
 
 returns : tie.Need-returns
 returns c =

@@ -1,13 +1,12 @@
--- `bursts::read_phases` meets its contract: the loop walks along the phases, and what it still has to list is what the single accesses still give.
-use mathlib.Core.Path.{_∙_}
+-- `phases::read_phases` meets its contract: the loop walks along the phases, and what it still has to list is what the single accesses still give.
 use Prim.Native.Nat.{_-_, _≤_, _<_}
 use native.Mathlib.Omega.{arith}
 use lib.ListN.{length}
 use borrow.Author.Needs.{needs}
 use Rattle.model.specs.Bursts.{lastDword}
-use Rattle.bursts.specs.Laws.{pins-at, on, off, Listing, list-begins, list-goes-on, list-ends}
-use Rattle.bursts.proofs.read_phases.Statement.{statement}
-use Rattle.bursts.proofs.read_phases.Tie as tie
+use Rattle.phases.specs.Laws.{pins-at, on, off, Listing, list-begins, list-goes-on, list-ends}
+use Rattle.phases.proofs.read_phases.Statement.{statement}
+use Rattle.phases.proofs.read_phases.Tie as tie
 
 abbrev Inv-loop : tie.InvT-loop
 Inv-loop shared mode start phases list₀ d₀ i₀ list d i = Listing mode start phases shared list₀ list d i
