@@ -24,7 +24,10 @@ pub fn write(
     if number != 0 {
         return Total::refused(number);
     }
-    Total::ended(phases::write_phases(shared, mode, start, phases), phases.len())
+    Total::ended(
+        phases::write_phases(shared, mode, start, phases),
+        phases.len(),
+    )
 }
 
 // A burst read: "A read list gets each phase's V; its other places stay."
@@ -45,5 +48,8 @@ pub fn read(
     if number != 0 {
         return Total::refused(number);
     }
-    Total::ended(phases::read_phases(shared, mode, start, phases, list), phases.len())
+    Total::ended(
+        phases::read_phases(shared, mode, start, phases, list),
+        phases.len(),
+    )
 }

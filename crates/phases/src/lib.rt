@@ -94,6 +94,9 @@ fn pins_fit(phases: &[u64]) -> bool
 pub fn refusal(unfit: bool, side: u8, mode: u8, phases: &[u64], short: bool) -> u8
     ensures { λ r. ⌜ r ≡ refusal (checksOf unfit side mode (phasesAs (now (phases .entry))) short) ⌝ }
 {
+    let far = access::wrong_side(access::LOCAL, side);
+    let none = no_burst(mode, phases.len());
+    let fit = pins_fit(phases);
     access::when(
         access::UNFIT,
         unfit,
@@ -102,13 +105,13 @@ pub fn refusal(unfit: bool, side: u8, mode: u8, phases: &[u64], short: bool) -> 
             1 < side,
             access::when(
                 access::WRONG_SIDE,
-                access::wrong_side(access::LOCAL, side),
+                far,
                 access::when(
                     access::NO_BURST,
-                    no_burst(mode, phases.len()),
+                    none,
                     access::when(
                         access::SELECTOR,
-                        !pins_fit(phases),
+                        !fit,
                         access::when(access::SHORT_LIST, short, 0),
                     ),
                 ),
