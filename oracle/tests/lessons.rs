@@ -8,6 +8,7 @@ mod files;
 use std::path::Path;
 
 use files::{entries, stem, text, ROOT};
+use oracle::call::{Call, Given};
 use oracle::{bays, zero_in_registers};
 
 /// How the header of a table begins.
@@ -83,19 +84,18 @@ fn the_tables_are_the_lists_and_the_answers() {
     }
 }
 
+/// The calls of a stored list, and what each gave.
+fn columns(stored: Vec<(Call, Given)>) -> Columns {
+    let columns = stored.into_iter();
+    columns
+        .map(|(call, given)| (call.to_string(), given.to_string()))
+        .unzip()
+}
+
 #[test]
 fn the_table_of_calls_is_the_stored_list() {
     let document = text(&Path::new(ROOT).join("docs/LESSONS.md"));
-    let stored = zero_in_registers();
-    let calls = stored.iter().map(|(call, _)| call.to_string());
-    let answers = stored.iter().map(|(_, answer)| {
-        let [number, v, x] = answer.numbers();
-        format!("{number} {v} {x}")
-    });
-    assert_eq!(
-        tables(&document, CALLS),
-        [(calls.collect(), answers.collect())]
-    );
+    assert_eq!(tables(&document, CALLS), [columns(zero_in_registers())]);
 }
 
 /// The numbers in a line of the picture, if each of its cells is this word and a number.

@@ -1,10 +1,13 @@
 //! What each test program reads, and what it must write.
 
 mod bays;
+mod bursts;
+mod case;
 mod convert;
 mod device;
 mod pins;
 mod replay;
+mod sections;
 mod trace;
 
 use crate::stored::Stored;
@@ -31,6 +34,7 @@ pub fn files() -> Vec<Stored> {
         bays::program(),
         trace::program(),
         device::program(),
+        bursts::program(),
     ];
     programs
         .into_iter()
