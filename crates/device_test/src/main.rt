@@ -122,21 +122,6 @@ fn show_answer(answer: Answer) {
     }
 }
 
-// A digest with one byte more.
-fn with_byte(digest: u64, byte: u8) -> u64 {
-    (digest % 4294967296 * 16777619 + byte as u64) % 4294967296
-}
-
-fn digest(bytes: &[u8]) -> u64 {
-    let mut sum = 0;
-    let mut i = 0;
-    while i < bytes.len() {
-        sum = with_byte(sum, bytes[i]);
-        i += 1;
-    }
-    sum
-}
-
 // THE CASES
 
 fn answer_call(card: Card, shared: &mut [u8], window: &mut [u8], call: Call) -> Outcome {
@@ -168,7 +153,7 @@ fn run_source<'a>(settings: Settings, shared: &'a [u8], window: &'a [u8]) {
     let q = read_access();
     let part = source::source(settings, shared, window, q.s, q.a, q.b, q.c);
     show(part.len() as u64, b' ');
-    show(digest(part), b'\n');
+    show(testing::digest(part), b'\n');
 }
 
 fn run_sources<'a>(settings: Settings, shared: &'a [u8], window: &'a [u8], count: u32) {
@@ -193,8 +178,8 @@ fn first_card(what: u32, settings: Settings) -> Card {
 fn run_card(what: u32, settings: Settings, count: u32, shared: &mut [u8], window: &mut [u8]) {
     let card = first_card(what, settings);
     case_card::show_card(run_calls(card, shared, window, count));
-    show(digest(shared), b' ');
-    show(digest(window), b'\n');
+    show(testing::digest(shared), b' ');
+    show(testing::digest(window), b'\n');
 }
 
 // A case with these memories.

@@ -3,8 +3,8 @@ use borrow.Author.Needs.{needs}
 use mathlib.Core.Path.{_≡_}
 use Prim.Native.Nat.{_-_}
 use lib.ListN.{length, length-set}
-use Rattle.bursts_test.proofs.fill_list.Statement.{statement}
-use Rattle.bursts_test.proofs.fill_list.Tie as tie
+use Rattle.case_bursts.proofs.fill_list.Statement.{statement}
+use Rattle.case_bursts.proofs.fill_list.Tie as tie
 
 abbrev Inv-loop : tie.InvT-loop
 Inv-loop list₀ i₀ list i = length list ≡ length list₀

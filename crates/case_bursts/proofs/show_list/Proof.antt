@@ -2,8 +2,8 @@
 use borrow.Author.Needs.{needs}
 use Prim.Native.Nat.{_-_}
 use lib.ListN.{length}
-use Rattle.bursts_test.proofs.show_list.Statement.{statement}
-use Rattle.bursts_test.proofs.show_list.Tie as tie
+use Rattle.case_bursts.proofs.show_list.Statement.{statement}
+use Rattle.case_bursts.proofs.show_list.Tie as tie
 
 abbrev Inv-loop : tie.InvT-loop
 Inv-loop list sum₀ i₀ sum i = Unit {0}

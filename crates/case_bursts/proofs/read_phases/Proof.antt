@@ -3,8 +3,8 @@ use borrow.Author.Needs.{needs}
 use mathlib.Core.Path.{_≡_}
 use Prim.Native.Nat.{_-_}
 use lib.ListN.{length, length-set}
-use Rattle.bursts_test.proofs.read_phases.Statement.{statement}
-use Rattle.bursts_test.proofs.read_phases.Tie as tie
+use Rattle.case_bursts.proofs.read_phases.Statement.{statement}
+use Rattle.case_bursts.proofs.read_phases.Tie as tie
 
 abbrev Inv-loop : tie.InvT-loop
 Inv-loop phases₀ stored i₀ phases i = length phases ≡ length phases₀
