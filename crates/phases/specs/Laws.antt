@@ -6,16 +6,20 @@ use mathlib.Core.List.{List, [], _∷_, _++_, map}
 use Prim.Native.Nat.{ℕ, zero, suc, _+_, _*_, _/_, _%_, _≤_, _<_}
 use native.Mathlib.Omega.{arith}
 use native.Mathlib.Numerals.{add-one}
-use lib.Dec.{leb, ltb}
+use lib.Dec.{eqb, leb, ltb}
 use lib.ListN.{length, getD, drop, set, length-set, length-map, drop-of-length-le}
 use lib.Seq.{drop-cons, sets, sets-eq}
-use borrow.Author.Tests.{le-leb, leb-true, le-ltb, lt-ltb, ltb-true, ltb-false, not-true}
+use borrow.Author.Tests.{eqb-true, le-leb, leb-true, le-ltb, lt-ltb, ltb-true, ltb-false, not-true}
 use Rattle.model.specs.Checks.{above}
+use Rattle.model.specs.Lanes.{dwordOf}
 use Rattle.model.specs.Runs.{Entry}
 use Rattle.model.specs.Accesses.{Access, Answer, fit}
 use Rattle.model.specs.Bursts.{Phase, Way, reads, advances, next, lastDword, listAfter}
+use Rattle.model.specs.Pins.{decode}
+use Rattle.model.specs.LaneLaws.{dword-bytes}
 use Rattle.model.specs.TestLaws.{no-both, and-left, and-right, if-case}
 use Rattle.model.specs.BurstLaws.{valueIn, leftBy, left-length, entriesFrom, sharedFrom}
+use Rattle.pins.specs.Laws.{carried-whole}
 use Rattle.phases.specs.Bridge.{phaseAs, phasesAs, pinsFit}
 
 -- PHASES
@@ -25,6 +29,9 @@ phase-is pins dq h =
     let p : (pins * 4294967296 + dq) / 4294967296 ≡ pins = omega arith in
     let q : (pins * 4294967296 + dq) % 4294967296 ≡ dq = omega arith in
     rw (p, q)
+
+pub data-fits : (n : ℕ) → phaseAs n .dq < 4294967296
+data-fits n = omega arith
 
 pub phases-count : (ns : List ℕ) → length (phasesAs ns) ≡ length ns
 phases-count ns = length-map ns phaseAs
@@ -36,6 +43,14 @@ no-mode (suc zero) pins a b c = absurd (b refl)
 no-mode (suc (suc zero)) pins a b c = refl
 no-mode (suc (suc (suc zero))) pins a b c = absurd (c refl)
 no-mode (suc (suc (suc (suc mode)))) pins a b c = refl
+
+-- all pins low in mode 3: every lane, and the data as they are
+pub whole-dword : (mode pins dq : ℕ) → dq < 4294967296 → (eqb mode 3 && eqb pins 0) ≡ true → decode mode pins dq ≡ record { number = 0; lanes = 0; dword = dq }
+unfolding decode
+whole-dword mode pins dq h e =
+    let m = eqb-true mode 3 (and-left (eqb mode 3) (eqb pins 0) e) in
+    let p = eqb-true pins 0 (and-right (eqb mode 3) (eqb pins 0) e) in
+    rw (m, p) (ap (λ d. record { number = 0; lanes = 0; dword = d }) (sym (ap dwordOf (carried-whole dq)) ∙ dword-bytes 4 dq h))
 
 -- the dword address, by what the table says
 module _ (mode d : ℕ) {a : Bool} {pins given : ℕ} (p : given ≡ pins) (h : a ≡ advances mode given) where

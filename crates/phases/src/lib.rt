@@ -1,6 +1,6 @@
 // Document 02, L10: the phases of a burst: what one is, where the dword address goes, the checks, and their single accesses done in place.
 ghost use mathlib.Core.Path.{_≡_};
-ghost use mathlib.Core.Bool.{true, _||_};
+ghost use mathlib.Core.Bool.{true, _&&_, _||_};
 ghost use mathlib.Core.List.{[]};
 ghost use Prim.Native.Nat.{_≤_};
 ghost use lib.Dec.{eqb, ltb};
@@ -130,20 +130,36 @@ fn decoded(mode: u8, phase: u64) -> Decoded
     pins::decode(mode, pins_of(phase) as u8, data_of(phase))
 }
 
+// All pins low on a bus of 32 bits: the whole dword, for which no lanes are to be worked out.
+fn whole(mode: u8, phase: u64) -> bool
+    ensures { λ r. ⌜ r ≡ (eqb mode 3 && eqb (phaseAs phase .pins) 0) ⌝ }
+{
+    (mode == 3) & (pins_of(phase) == 0)
+}
+
 fn write_phase(shared: &mut [u8], mode: u8, d: u32, phase: u64)
     requires { ⌜ (length (now shared) ≡ sharedLength) × (d ≤ lastDword) × (phaseAs phase .pins ≤ 15) ⌝ }
     ensures { λ _. ⌜ now (shared .exit) ≡ leftBy writes mode d (phaseAs phase) (now (shared .entry)) ⌝ }
 {
+    let at = 4 * d as usize;
+    if whole(mode, phase) {
+        lanes::write_dword(shared, at, lanes::ALL_LANES, data_of(phase));
+        return;
+    }
     let lanes = decoded(mode, phase);
-    lanes::write_dword(shared, 4 * d as usize, lanes.lanes, lanes.dword);
+    lanes::write_dword(shared, at, lanes.lanes, lanes.dword);
 }
 
 fn read_phase(shared: &[u8], mode: u8, d: u32, phase: u64) -> u32
     requires { ⌜ (length (now shared) ≡ sharedLength) × (d ≤ lastDword) × (phaseAs phase .pins ≤ 15) ⌝ }
     ensures { λ r. ⌜ r ≡ valueIn (reads []) mode d (phaseAs phase) (now (shared .entry)) ⌝ }
 {
+    let at = 4 * d as usize;
+    if whole(mode, phase) {
+        return lanes::read_dword(shared, at, lanes::ALL_LANES);
+    }
     let lanes = decoded(mode, phase);
-    lanes::read_dword(shared, 4 * d as usize, lanes.lanes)
+    lanes::read_dword(shared, at, lanes.lanes)
 }
 
 // Writes the phases up to the first that stands past the last dword, and answers how many were done.
