@@ -1,6 +1,7 @@
 //! What each test program reads, and what it must write.
 
 mod bays;
+mod bench;
 mod bursts;
 mod case;
 mod convert;
@@ -35,6 +36,7 @@ pub fn files() -> Vec<Stored> {
         trace::program(),
         device::program(),
         bursts::program(),
+        bench::program(),
     ];
     programs
         .into_iter()
