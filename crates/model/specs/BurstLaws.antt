@@ -19,7 +19,7 @@ use Rattle.model.specs.State.{World}
 use Rattle.model.specs.Runs.{Outcome, Entry, run}
 use Rattle.model.specs.Accesses.{Access, Answer, fit, access}
 use Rattle.model.specs.Pins.{lanes8, motorolaRows, lanesOf, Decoded, decode}
-use Rattle.model.specs.Bursts.{Phase, Way, reads, writes, Burst, next, lastDword, single, singlesFrom, burstChecks, singles, Told, listAfter, total, burst}
+use Rattle.model.specs.Bursts.{Phase, Way, reads, writes, Burst, advances, next, lastDword, single, singlesFrom, burstChecks, singles, Told, listAfter, total, burst}
 use Rattle.model.specs.TestLaws.{All, no-both, every-get, if-case, or-right}
 use Rattle.model.specs.CheckLaws.{Positive, passed-all, pass-refusal, refusal-append, first-given}
 use Rattle.model.specs.LaneLaws.{length-write}
@@ -123,6 +123,22 @@ abbrev pub dwordAt : (mode d : ℕ) → List Phase → (i : ℕ) → ℕ
 dwordAt mode d [] i = d
 dwordAt mode d (p ∷ ps) zero = d
 dwordAt mode d (p ∷ ps) (suc i) = dwordAt mode (next mode (p .pins) d) ps i
+
+-- one dword further for each phase before it that advances
+abbrev pub advancing : (mode : ℕ) → List Phase → (i : ℕ) → ℕ
+advancing mode [] i = 0
+advancing mode (p ∷ ps) zero = 0
+advancing mode (p ∷ ps) (suc i) = (if advances mode (p .pins) then 1 else 0) + advancing mode ps i
+
+pub dword-told : (mode d : ℕ) (ps : List Phase) (i : ℕ) → dwordAt mode d ps i ≡ d + advancing mode ps i
+dword-told mode d [] i = omega arith
+dword-told mode d (p ∷ ps) zero = omega arith
+dword-told mode d (p ∷ ps) (suc i) = by (advances mode (p .pins)) (dword-told mode (next mode (p .pins) d) ps i)
+  where
+    by : (b : Bool) → dwordAt mode (if b then d + 1 else d) ps i ≡ (if b then d + 1 else d) + advancing mode ps i →
+        dwordAt mode (if b then d + 1 else d) ps i ≡ d + ((if b then 1 else 0) + advancing mode ps i)
+    by true h = omega (arith, h)
+    by false h = omega (arith, h)
 
 abbrev pub overruns : (mode d : ℕ) → List Phase → Bool
 overruns mode d [] = false
