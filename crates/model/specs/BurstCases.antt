@@ -1,11 +1,12 @@
--- Worked cases of L10's two tables: after which pins the dword address advances, and the single accesses of bursts, in each mode.
+-- Worked cases of L10: after which pins the dword address advances, the single accesses of bursts in each mode, and the checks in their order.
 use mathlib.Core.Path.{_≡_, refl}
 use mathlib.Core.Bool.{true, false}
 use mathlib.Core.List.{List, [], _∷_, _++_, map}
 use Prim.Native.Nat.{ℕ, _+_}
 use lib.ListN.{replicate}
+use Rattle.model.specs.Checks.{refusal}
 use Rattle.model.specs.Pins.{decode}
-use Rattle.model.specs.Bursts.{Phase, reads, writes, Burst, advances, singles}
+use Rattle.model.specs.Bursts.{Phase, Way, reads, writes, Burst, advances, burstChecks, singles}
 use Rattle.model.specs.Bench.{q, p}
 
 -- mode 0 after pins 1100 to 1111, mode 1 after 1000 to 1111, mode 3 after all
@@ -52,3 +53,31 @@ pub singles-ended : map singles (
     ∷ [] ∷ [] ∷ [] ∷ [] ∷ [] ∷ []
 unfolding decode
 singles-ended = refl
+
+-- Behind 1, each check alone and with others behind it: side 2; the host; mode 2, 4 and 255, and one phase too many; pins 16, also behind an
+-- overrun; a list shorter than the phases, also than those that are never reached. Last what passes: 65,536 phases, a list as long as the phases,
+-- and no phase, wherever it starts.
+abbrev asked : (side mode start : ℕ) → List Phase → Way → Burst
+asked side mode start ps way = record { way = way; side = side; mode = mode; start = start; phases = ps }
+
+pub checks-told : map (λ b. refusal (burstChecks b)) (
+    asked 2 2 0 (p 16 0 ∷ []) writes
+    ∷ asked 255 3 0 [] writes
+    ∷ asked 0 2 0 (p 16 0 ∷ []) (reads [])
+    ∷ asked 0 3 0 [] writes
+    ∷ asked 1 2 0 (p 16 0 ∷ []) (reads [])
+    ∷ asked 1 2 0 [] writes
+    ∷ asked 1 4 0 [] writes
+    ∷ asked 1 255 0 [] writes
+    ∷ asked 1 1 0 (replicate 65537 (p 16 0)) (reads [])
+    ∷ asked 1 3 0 (p 0 0 ∷ p 16 0 ∷ []) (reads [])
+    ∷ asked 1 0 0 (p 4294967295 0 ∷ p 0 0 ∷ []) writes
+    ∷ asked 1 3 4095 (p 0 0 ∷ p 0 0 ∷ p 16 0 ∷ []) writes
+    ∷ asked 1 3 0 (p 0 0 ∷ p 0 0 ∷ []) (reads (0 ∷ []))
+    ∷ asked 1 3 4096 (p 0 0 ∷ []) (reads [])
+    ∷ asked 1 1 0 (replicate 65536 (p 15 0)) writes
+    ∷ asked 1 0 0 (p 15 0 ∷ p 0 0 ∷ []) (reads (0 ∷ 0 ∷ []))
+    ∷ asked 1 3 4294967295 [] (reads [])
+    ∷ [])
+    ≡ 2 ∷ 2 ∷ 5 ∷ 5 ∷ 12 ∷ 12 ∷ 12 ∷ 12 ∷ 12 ∷ 4 ∷ 4 ∷ 4 ∷ 14 ∷ 14 ∷ 0 ∷ 0 ∷ 0 ∷ []
+checks-told = refl

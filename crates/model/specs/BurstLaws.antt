@@ -4,22 +4,23 @@
 use mathlib.Core.Path.{_≡_, refl, ap, sym, _∙_}
 use mathlib.Core.Logic.{_≢_, _↔_}
 use mathlib.Core.Bool.{Bool, true, false, not, _||_}
-use mathlib.Core.List.{List, [], _∷_, _++_, map}
+use mathlib.Core.List.{List, [], _∷_, map}
 use Prim.Native.Nat.{ℕ, zero, suc, _+_, _*_, _%_, _≤_, _<_}
 use native.Mathlib.Omega.{arith}
 use lib.ListN.{length, getD}
 use lib.Seq.{drop-nil}
 use lib.Dec.{eqb, ltb, lit<, leb·suc-suc, eqb·suc-zero}
 use borrow.Author.Tests.{le-ltb, lt-ltb, ltb-true, ltb-false, not-true, not-false}
-use Rattle.model.specs.Choice.{if_then_else_}
+use Rattle.model.specs.Choice.{if_then_else_, every}
 use Rattle.model.specs.Checks.{Check, _for_, refusal, First, above, misplaced, sharedLength}
 use Rattle.model.specs.Lanes.{readDword, writeDword}
+use Rattle.model.specs.Sides.{local, sideOf, notBy}
 use Rattle.model.specs.Events.{bit}
 use Rattle.model.specs.State.{World}
 use Rattle.model.specs.Runs.{Outcome, Entry, run}
 use Rattle.model.specs.Accesses.{Access, Answer, fit, access}
 use Rattle.model.specs.Pins.{lanes8, motorolaRows, lanesOf, Decoded, decode}
-use Rattle.model.specs.Bursts.{Phase, Way, reads, writes, Burst, advances, next, lastDword, single, singlesFrom, burstChecks, singles, Told, listAfter, total, burst}
+use Rattle.model.specs.Bursts.{Phase, Way, reads, writes, Burst, advances, next, lastDword, single, singlesFrom, short, burstChecks, singles, Told, listAfter, total, burst}
 use Rattle.model.specs.TestLaws.{All, no-both, every-get, if-case, or-right}
 use Rattle.model.specs.CheckLaws.{Positive, passed-all, pass-refusal, refusal-append, first-given}
 use Rattle.model.specs.LaneLaws.{length-write}
@@ -185,9 +186,16 @@ overruns-iff mode d ps = (forth (stops writes mode d ps), back (stops writes mod
 
 -- THE NUMBERS
 
--- The causes in their order, 13 the last. "Each iff its cause holds and none before it."
+-- The causes in their order, 13 the last, written out here once more.
 abbrev pub burstCauses : World → Burst → List Check
-burstCauses w b = (1 for not (fit w) ∷ burstChecks b) ++ (13 for overruns (b .mode) (b .start) (b .phases) ∷ [])
+burstCauses w b =
+    1 for not (fit w)
+    ∷ 2 for above 1 (b .side)
+    ∷ 5 for notBy local (sideOf (b .side))
+    ∷ 12 for (eqb (b .mode) 2 || above 3 (b .mode) || above 65536 (length (b .phases)))
+    ∷ 4 for not (every (λ p. not (above 15 (p .pins))) (b .phases))
+    ∷ 14 for short (b .way) (length (b .phases))
+    ∷ 13 for overruns (b .mode) (b .start) (b .phases) ∷ []
 
 -- those before 13
 abbrev pub burstRefusal : World → Burst → ℕ
