@@ -170,6 +170,19 @@ stops way mode d (p ∷ ps) = by (above lastDword d) refl (stops way mode (next 
         at zero l = ltb-false lastDword d e
         at (suc i) l = s .stand i (omega arith)
 
+-- single access i is that of phase i, at the dword where it stands
+pub single-at : (way : Way) (mode d : ℕ) (ps : List Phase) (i : ℕ) (q : Access) (p : Phase) → i < length (singlesFrom way mode d ps) →
+    getD (singlesFrom way mode d ps) i q ≡ single way mode (dwordAt mode d ps i) (getD ps i p)
+single-at way mode d [] i q p h = absurd (omega arith)
+single-at way mode d (f ∷ ps) i q p h = by (above lastDword d) i h (λ i l. single-at way mode (next mode (f .pins) d) ps i q p l)
+  where
+    by : (b : Bool) (i : ℕ) → i < length (if b then [] else single way mode d f ∷ singlesFrom way mode (next mode (f .pins) d) ps) →
+        ((i : ℕ) → i < length (singlesFrom way mode (next mode (f .pins) d) ps) → getD (singlesFrom way mode (next mode (f .pins) d) ps) i q ≡ single way mode (dwordAt mode (next mode (f .pins) d) ps i) (getD ps i p)) →
+        getD (if b then [] else single way mode d f ∷ singlesFrom way mode (next mode (f .pins) d) ps) i q ≡ single way mode (dwordAt mode d (f ∷ ps) i) (getD (f ∷ ps) i p)
+    by true i l r = absurd (omega arith)
+    by false zero l r = refl
+    by false (suc i) l r = r i (omega arith)
+
 -- "13 iff some phase stands at d > 4,095"
 pub overruns-iff : (mode d : ℕ) (ps : List Phase) → (overruns mode d ps ≡ true) ↔ ((i : ℕ) × (i < length ps) × (lastDword < dwordAt mode d ps i))
 overruns-iff mode d ps = (forth (stops writes mode d ps), back (stops writes mode d ps))
@@ -249,40 +262,65 @@ number-is w b = by (burstRefusal w b) refl ∙ sym (refusal-append (1 for not (f
 pub burst-given-iff : (w : World) (b : Burst) (n : ℕ) → 0 < n → (burst w b .answer .answer .number ≡ n) ↔ First n (burstCauses w b)
 burst-given-iff w b n z = rw (number-is w b) (first-given (burstCauses w b) n z)
 
+-- the list that was lent, as it was
+abbrev pub lent : Way → List ℕ
+lent (reads list) = list
+lent writes = []
+
 -- "all changing nothing", but for 13
 pub burst-refusal-changes-nothing : (w : World) (b : Burst) → burst w b .answer .answer .number ≢ 0 → burst w b .answer .answer .number ≢ 13 →
-    burst w b ≡ record { answer = record { answer = record { number = burstRefusal w b; v = 0; x = 0 }; list = listAfter (b .way) [] }; world = w }
+    burst w b ≡ record { answer = record { answer = record { number = burstRefusal w b; v = 0; x = 0 }; list = lent (b .way) }; world = w }
 burst-refusal-changes-nothing w b y z = by (burstRefusal w b) refl
   where
     stop : (o : Bool) → burst w b .answer .answer .number ≡ (if o then 13 else 0) → ⊥
     stop true h = z h
     stop false h = y h
 
-    by : (n : ℕ) → burstRefusal w b ≡ n → burst w b ≡ record { answer = record { answer = record { number = n; v = 0; x = 0 }; list = listAfter (b .way) [] }; world = w }
-    by zero e = absurd (stop (ltb (length (entriesFrom (b .way) (b .mode) (b .start) (b .phases) (w .shared))) (length (b .phases))) (ap (λ (r : Outcome Told World). r .answer .answer .number) (accepted-is w b e)))
-    by (suc n) e = refused-is w b n e
+    as-lent : (way : Way) → listAfter way [] ≡ lent way
+    as-lent (reads list) = refl
+    as-lent writes = refl
 
--- "A read list gets each phase's V; its other places stay", place by place
-pub list-place : (list : List ℕ) (es : List (Entry Access Answer)) (i : ℕ) →
-    getD (listAfter (reads list) es) i 0 ≡ (if ltb i (length es) then getD (map (λ e. e .answer .v) es) i 0 else getD list i 0)
-list-place list [] i = rw (le-ltb i 0 (omega arith))
-list-place [] (e ∷ es) zero = rw (lt-ltb 0 (suc (length es)) (omega arith))
-list-place (v ∷ list) (e ∷ es) zero = rw (lt-ltb 0 (suc (length es)) (omega arith))
-list-place [] (e ∷ es) (suc i) = rw (leb·suc-suc (suc i) (length es)) (rw (drop-nil (length es)) at (list-place [] es i))
-list-place (v ∷ list) (e ∷ es) (suc i) = rw (leb·suc-suc (suc i) (length es)) (list-place list es i)
+    by : (n : ℕ) → burstRefusal w b ≡ n → burst w b ≡ record { answer = record { answer = record { number = n; v = 0; x = 0 }; list = lent (b .way) }; world = w }
+    by zero e = absurd (stop (ltb (length (entriesFrom (b .way) (b .mode) (b .start) (b .phases) (w .shared))) (length (b .phases))) (ap (λ (r : Outcome Told World). r .answer .answer .number) (accepted-is w b e)))
+    by (suc n) e = refused-is w b n e ∙ ap (λ l. record { answer = record { answer = record { number = suc n; v = 0; x = 0 }; list = l }; world = w }) (as-lent (b .way))
+
+-- "A read list gets each phase's V; its other places stay": as many places as were lent, and place by place, with `x` for one that is not there
+pub list-length : (list : List ℕ) (es : List (Entry Access Answer)) → length es ≤ length list → length (listAfter (reads list) es) ≡ length list
+list-length list [] h = refl
+list-length [] (e ∷ es) h = absurd (omega arith)
+list-length (v ∷ list) (e ∷ es) h = ap suc (list-length list es (omega arith))
+
+pub list-place : (x : ℕ) (list : List ℕ) (es : List (Entry Access Answer)) (i : ℕ) →
+    getD (listAfter (reads list) es) i x ≡ (if ltb i (length es) then getD (map (λ e. e .answer .v) es) i x else getD list i x)
+list-place x list [] i = rw (le-ltb i 0 (omega arith))
+list-place x [] (e ∷ es) zero = rw (lt-ltb 0 (suc (length es)) (omega arith))
+list-place x (v ∷ list) (e ∷ es) zero = rw (lt-ltb 0 (suc (length es)) (omega arith))
+list-place x [] (e ∷ es) (suc i) = rw (leb·suc-suc (suc i) (length es)) (rw (drop-nil (length es)) at (list-place x [] es i))
+list-place x (v ∷ list) (e ∷ es) (suc i) = rw (leb·suc-suc (suc i) (length es)) (list-place x list es i)
+
+-- a write is told no list
+pub no-list : (w : World) (b : Burst) → b .way ≡ writes → burst w b .answer .list ≡ []
+unfolding burst
+no-list w b e = by (burstRefusal w b)
+  where
+    by : (n : ℕ) → total n b (run access w (singles b) .entries) .list ≡ []
+    by zero = ap (λ way. listAfter way (run access w (singles b) .entries)) e
+    by (suc n) = ap (λ way. listAfter way []) e
 
 run-each : (way : Way) (mode d : ℕ) (ps : List Phase) (m : List ℕ) → All (λ e. e .answer .number ≡ 0) (entriesFrom way mode d ps m)
 run-each way mode d [] m = tt
 run-each way mode d (p ∷ ps) m =
     if-case (All (λ (e : Entry Access Answer). e .answer .number ≡ 0)) (above lastDword d) [] _ (λ _. tt) (λ _. (refl, run-each way mode (next mode (p .pins) d) ps (leftBy way mode d p m)))
 
--- T10.1: a burst that none of 1, 2, 5, 12, 4 and 14 refuses
+-- T10.1: a burst that none of 1, 2, 5, 12, 4 and 14 refuses. The phases done are all of them, or those before the first past the last dword.
 pub record BurstDone (w : World) (b : Burst) : Type 0 where
   pub world : burst w b .world ≡ run access w (singles b) .world
   pub each : All (λ e. e .answer .number ≡ 0) (run access w (singles b) .entries)
   pub number : (burst w b .answer .answer .number ≡ 13) ↔ ((i : ℕ) × (i < length (b .phases)) × (lastDword < dwordAt (b .mode) (b .start) (b .phases) i))
   pub otherwise : burst w b .answer .answer .number ≢ 13 → burst w b .answer .answer .number ≡ 0
   pub v : burst w b .answer .answer .v ≡ length (singles b)
+  pub stopped : Stops (b .mode) (b .start) (b .phases) (length (singles b)) (eqb (burst w b .answer .answer .number) 13)
+  pub single : (i : ℕ) (q : Access) (p : Phase) → i < length (singles b) → getD (singles b) i q ≡ single (b .way) (b .mode) (dwordAt (b .mode) (b .start) (b .phases) i) (getD (b .phases) i p)
   pub x : burst w b .answer .answer .x ≡ 0
   pub list : burst w b .answer .list ≡ listAfter (b .way) (run access w (singles b) .entries)
 
@@ -300,6 +338,8 @@ burst-done w b h =
       number = (λ e. o .0 (of-13 (overruns (b .mode) (b .start) (b .phases)) (sym told ∙ e)), λ e. told ∙ rw (o .1 e));
       otherwise = λ e. or-0 (overruns (b .mode) (b .start) (b .phases)) told e;
       v = rw h (run-count w (singles b));
+      stopped = rw (told, tells (overruns (b .mode) (b .start) (b .phases)), a .1) s;
+      single = λ i q p l. rw (a .1) (single-at (b .way) (b .mode) (b .start) (b .phases) i q p (rw (a .1) at l));
       x = rw h;
       list = rw h;
     }
@@ -307,6 +347,10 @@ burst-done w b h =
     of-13 : (o : Bool) → _≡_ {A = ℕ} (if o then 13 else 0) 13 → o ≡ true
     of-13 true e = refl
     of-13 false e = absurd (omega arith)
+
+    tells : (o : Bool) → eqb (if o then 13 else 0) 13 ≡ o
+    tells true = refl
+    tells false = refl
 
     or-0 : (o : Bool) {n : ℕ} → n ≡ (if o then 13 else 0) → n ≢ 13 → n ≡ 0
     or-0 true e z = absurd (z e)

@@ -1,7 +1,7 @@
 -- Rule 3 where a burst counts as its single accesses: if the list with each burst replaced by them meets the premise, so does the list, and its steps move.
 -- By induction over the calls: a burst and its single accesses are nothing to the transfers, leave the same world, and are quiet alike.
 use mathlib.Core.Path.{_≡_, refl, sym, ap, _∙_, subst}
-use mathlib.Core.Bool.{Bool, true, false, _&&_, _||_, or-true}
+use mathlib.Core.Bool.{Bool, true, false, not, _&&_, _||_, or-true}
 use mathlib.Core.List.{List, [], _∷_, _++_, map}
 use Prim.Native.Nat.{ℕ}
 use lib.Dec.{eqb}
@@ -12,11 +12,11 @@ use Rattle.model.specs.Runs.{Entry, run, entryAt}
 use Rattle.model.specs.Accesses.{Access, Answer, fit, access}
 use Rattle.model.specs.Bursts.{Burst, singles, burst}
 use Rattle.model.specs.Calls.{Call, direct, register, bursting, plain, call}
-use Rattle.model.specs.TestLaws.{All, and-left, and-right, and-true, every-map}
+use Rattle.model.specs.TestLaws.{All, and-left, and-right, and-true, every-append, every-map}
 use Rattle.model.specs.BurstLaws.{unfit-run}
 use Rattle.reordering.specs.Roles.{none, Role, startOf, stepOf, neither, entryOf, roleOf, openAfter, countAfter, rolesFrom, stepsOf}
 use Rattle.reordering.specs.Reordering.{actionOf}
-use Rattle.reordering.specs.CallReordering.{Reply, noted, notedAction, countsAs, quietCall, flat, FlatCallsMove}
+use Rattle.reordering.specs.CallReordering.{Reply, noted, notedAction, countsAs, quietCall, flatCall, flat, FlatCallsMove}
 use Rattle.reordering.specs.BurstExchange.{counts-fit, counts-unfit, singles-inert, quiet-counts}
 use Rattle.reordering.specs.CallExchange.{calls-move}
 use Rattle.reordering.specs.Premise.{isOwn, isEmpty, calm, undisturbed, premise, tested}
@@ -151,6 +151,26 @@ flattens w (bursting b ∷ calls) n o =
     ap (rolesFrom notedAction n o) (run-append w l (flat es)) ∙ roles-inert n o (run noted w l .entries) (run noted (run noted w l .world) (flat es) .entries) (counted-inert w b)
     ∙ ap (λ v. map neither (run noted w l .entries) ++ rolesFrom notedAction n o (run noted v (flat es) .entries)) (counted-world w b) in
     subst (Flattened (neither (entryAt noted w (bursting b)) ∷ rolesFrom notedAction n o es)) (sym is) (spread _ (counted w b) (counted-quiet w b) (flattens v calls n o))
+
+-- no burst is left in it
+abbrev isBurst : Call → Bool
+isBurst (direct q) = false
+isBurst (register q) = false
+isBurst (bursting b) = true
+
+pub no-burst-left : (es : List (Entry Call Reply)) → every (λ c. not (isBurst c)) (flat es) ≡ true
+no-burst-left [] = refl
+no-burst-left (e ∷ es) =
+    every-append (λ c. not (isBurst c)) (flatCall (e .access) (e .answer .told .answer)) (flat es) ∙ and-true (one (e .access) (e .answer .told .answer)) (no-burst-left es)
+  where
+    all-direct : (l : List Access) → every (λ c. not (isBurst c)) (map direct l) ≡ true
+    all-direct [] = refl
+    all-direct (q ∷ l) = all-direct l
+
+    one : (c : Call) (a : Answer) → every (λ c. not (isBurst c)) (flatCall c a) ≡ true
+    one (direct q) a = refl
+    one (register q) a = refl
+    one (bursting b) a = all-direct (countsAs b a)
 
 -- RULE 3
 
