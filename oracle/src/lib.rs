@@ -4,6 +4,7 @@
 pub mod access;
 pub mod arbitrary;
 pub mod bays;
+pub mod bursts;
 pub mod call;
 pub mod card;
 pub mod convert;
@@ -29,5 +30,5 @@ pub mod transfer;
 mod vectors;
 pub mod world;
 
-pub use drive::calls::zero_in_registers;
+pub use drive::calls::{narrow_bus, zero_in_registers};
 pub use programs::{long_list, long_trace, FEWEST_RECORDS};

@@ -1,17 +1,19 @@
 //! Writes the files that are compared with, checks that the stored ones are what it would write,
-//! replays a trace, turns a text list into a trace or back, or writes a trace or a list.
+//! replays a trace, turns a text list into a trace or back, writes a trace or a list, or performs
+//! the bursts of the bench.
 
 use std::io::{self, Write};
 use std::path::Path;
 use std::process::ExitCode;
 
+use oracle::bursts::workload;
 use oracle::{convert, long_list, long_trace, replay, stored, FEWEST_RECORDS};
 
 /// Where the crates stand, seen from this one.
 const CRATES: &str = concat!(env!("CARGO_MANIFEST_DIR"), "/../crates");
 
 const USAGE: &str = "usage: oracle write | check | replay < trace | to-trace < list \
-                     | to-text < trace | trace RECORDS | list RECORDS";
+                     | to-text < trace | trace RECORDS | list RECORDS | bursts ROUNDS";
 
 fn main() -> ExitCode {
     let words: Vec<String> = std::env::args().skip(1).collect();
@@ -42,6 +44,11 @@ fn run(words: &[&str]) -> Result<(), String> {
         ["list", records] => {
             let list = long_list(number(records)?);
             output.write_all(&list).map_err(text)?;
+        }
+        ["bursts", rounds] => {
+            let parsed = rounds.parse();
+            let rounds = parsed.map_err(|_| format!("{rounds}: not a number of rounds"))?;
+            writeln!(output, "{}", workload::sum(rounds)).map_err(text)?;
         }
         _ => return Err(USAGE.to_string()),
     }

@@ -41,8 +41,8 @@ impl Rng {
         self.below(limit) == 0
     }
 
-    pub fn pick<T: Copy>(&mut self, choices: &[T]) -> T {
-        choices[self.below(choices.len() as u32) as usize]
+    pub fn pick<T: Clone>(&mut self, choices: &[T]) -> T {
+        choices[self.below(choices.len() as u32) as usize].clone()
     }
 
     /// An index, each with its weight.

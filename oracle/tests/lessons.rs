@@ -1,18 +1,20 @@
 //! The tables of docs/LESSONS.md are the files of the lessons: the first column is the list of the
-//! trace, the last one what the replay writes of it. Register accesses are in no trace: a table of
-//! calls is the stored list of that lesson. The picture of the bays has each index and label at its
-//! row and column.
+//! trace, the last one what the replay writes of it. Register accesses and bursts are in no trace: a
+//! table of them is the stored list of that lesson. The picture of the bays has each index and label
+//! at its row and column, that of the lanes each phase's bytes.
 
 mod files;
 
 use std::path::Path;
 
 use files::{entries, stem, text, ROOT};
-use oracle::{bays, zero_in_registers};
+use oracle::call::{Call, Given};
+use oracle::{bays, narrow_bus, pins, zero_in_registers};
 
 /// How the header of a table begins.
 const ACCESSES: &str = "| kind side S A B C |";
 const CALLS: &str = "| side offset direction dword |";
+const BURSTS: &str = "| burst or access |";
 
 /// The first column, and the last.
 type Columns = (Vec<String>, Vec<String>);
@@ -83,19 +85,64 @@ fn the_tables_are_the_lists_and_the_answers() {
     }
 }
 
+/// The calls of a stored list, and what each gave.
+fn columns(stored: Vec<(Call, Given)>) -> Columns {
+    let columns = stored.into_iter();
+    columns
+        .map(|(call, given)| (call.to_string(), given.to_string()))
+        .unzip()
+}
+
 #[test]
 fn the_table_of_calls_is_the_stored_list() {
     let document = text(&Path::new(ROOT).join("docs/LESSONS.md"));
-    let stored = zero_in_registers();
-    let calls = stored.iter().map(|(call, _)| call.to_string());
-    let answers = stored.iter().map(|(_, answer)| {
-        let [number, v, x] = answer.numbers();
-        format!("{number} {v} {x}")
-    });
-    assert_eq!(
-        tables(&document, CALLS),
-        [(calls.collect(), answers.collect())]
-    );
+    assert_eq!(tables(&document, CALLS), [columns(zero_in_registers())]);
+    assert_eq!(tables(&document, BURSTS), [columns(narrow_bus())]);
+}
+
+/// A line of the picture of lanes: mode and pins, then of both dwords the bytes that a phase carries
+/// to its lanes, and whether the address advances behind it.
+fn lanes_line(mode: u8, pins: u8, data: u32, second: bool) -> String {
+    let decoded = pins::decode(mode, pins, data);
+    let bytes = decoded.dword.to_le_bytes();
+    let byte = |lane: usize| match decoded.lanes >> lane & 1 {
+        0 => format!("{:02x}", bytes[lane]),
+        _ => "..".to_string(),
+    };
+    let here = [0, 1, 2, 3].map(byte).join(" ");
+    let none = [".."; 4].join(" ");
+    let (first, second) = if second {
+        (&none, &here)
+    } else {
+        (&here, &none)
+    };
+    let advances = match mode {
+        0 => pins / 4 == 3,
+        1 => pins / 8 == 1,
+        _ => true,
+    };
+    let line = format!("    {mode}      {pins:04b}    │       {first} │       {second} │");
+    line + if advances { " next dword" } else { "" }
+}
+
+#[test]
+fn the_picture_of_lanes_is_the_bursts() {
+    let document = text(&Path::new(ROOT).join("docs/LESSONS.md"));
+    let is_phase = |line: &&str| line.starts_with("    ") && line.matches("..").count() >= 4;
+    let pictured: Vec<&str> = document.lines().filter(is_phase).collect();
+    let mut lines = Vec::new();
+    for (call, _) in &narrow_bus()[..7] {
+        let Call::BurstWrite(burst) = call else {
+            continue;
+        };
+        let mut second = false;
+        for phase in &burst.phases {
+            let line = lanes_line(burst.mode, phase.pins as u8, phase.data, second);
+            second |= line.ends_with("dword");
+            lines.push(line);
+        }
+    }
+    assert_eq!(pictured, lines);
 }
 
 /// The numbers in a line of the picture, if each of its cells is this word and a number.

@@ -57,6 +57,13 @@ pub const NOT_RUNNING: u8 = 10;
 // L4: an offset that is no multiple of 4, or not modelled.
 pub const UNMODELLED: u8 = 11;
 
+// L10: a mode of 2 or above 3, or more than 65,536 phases; a phase past the last dword; a read list shorter than the phases.
+pub const NO_BURST: u8 = 12;
+
+pub const OVERRUN: u8 = 13;
+
+pub const SHORT_LIST: u8 = 14;
+
 // The trace reader's.
 pub const SHORT_RECORD: u8 = 20;
 

@@ -1,5 +1,7 @@
-// The record of a case of the test programs: read from numbers of four bytes, least byte first, and written out as lines of decimal numbers.
+// The head and the record of a case of the test programs: read from numbers of four bytes, least byte first, and the record and an answer written
+// out as lines of decimal numbers.
 // What stands where is said in oracle/src/programs/device/mod.rs.
+use access::Answer;
 use arbitration::Arbitration;
 use arbitration::Pair;
 use card::Card;
@@ -17,6 +19,41 @@ use transfer::Request;
 use transfer::Transfer;
 
 // READ
+
+// What a case begins with. `whole`: the input had not ended.
+pub struct Head {
+    pub whole: bool,
+    pub what: u32,
+    pub settings: Settings,
+    pub shared: u32,
+    pub window: u32,
+    pub seed: u32,
+    pub count: u32,
+}
+
+fn head_of(whole: bool, bytes: &[u8]) -> Head {
+    let settings = Settings {
+        base: number_at(bytes, 1),
+        length: number_at(bytes, 2),
+        lo: number_at(bytes, 3),
+        hi: number_at(bytes, 4),
+    };
+    Head {
+        whole: whole,
+        what: number_at(bytes, 0),
+        settings: settings,
+        shared: number_at(bytes, 5),
+        window: number_at(bytes, 6),
+        seed: number_at(bytes, 7),
+        count: number_at(bytes, 8),
+    }
+}
+
+pub fn read_head() -> Head {
+    let mut bytes = [0u8; 36];
+    let whole = testing::read_bytes(&mut bytes);
+    head_of(whole, &bytes)
+}
 
 fn fifo_of(bytes: &[u8]) -> Fifo {
     let mut entries = [0u32; 32];
@@ -115,7 +152,30 @@ pub fn read_card(settings: Settings) -> Card {
     card_of(settings, [f0, f1, f2, f3], &bytes)
 }
 
+// The card of a case: a given record, or a fresh card, whose number is written.
+pub fn first_card(what: u32, settings: Settings) -> Card {
+    if what == 0 {
+        return read_card(settings);
+    }
+    let new = card::fresh(settings);
+    show(new.number as u64, b'\n');
+    new.card
+}
+
 // WRITTEN OUT
+
+fn show_answered(n: u8, v: u32, x: u32) {
+    show(n as u64, b' ');
+    show(v as u64, b' ');
+    show(x as u64, b'\n');
+}
+
+pub fn show_answer(answer: Answer) {
+    match answer {
+        Answer::Done(v, x) => show_answered(0, v, x),
+        Answer::Refused(n) => show_answered(n, 0, 0),
+    }
+}
 
 fn bit(set: bool) -> u64 {
     if set { 1 } else { 0 }

@@ -37,6 +37,13 @@ pub mod MixedCallsAtWork
 pub mod MixedCallsRefused
 pub mod CallsToUnsoundCard
 pub mod CallsWithShortMemory
+pub mod BurstsInEachMode
+pub mod BurstsThatOverrun
+pub mod BurstsRefused
+pub mod BurstsToUnsoundCard
+pub mod BurstsWithShortMemory
+pub mod BurstsBesideATransfer
+pub mod NarrowBus
 pub mod SourceVectors
 pub mod PinVectors
 pub mod BayVectors

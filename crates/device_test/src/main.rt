@@ -4,49 +4,14 @@
 ghost use mathlib.Core.Path.{_≡_};
 ghost use lib.ListN.{length};
 use access::Access;
-use access::Answer;
 use card::Card;
 use card::Outcome;
+use case_card::Head;
 use settings::Settings;
 use testing::number_at;
 use testing::show;
 
 // WHAT A CASE SAYS: numbers of four bytes, least byte first
-
-// What a case begins with. `whole`: the input had not ended.
-struct Head {
-    whole: bool,
-    what: u32,
-    settings: Settings,
-    shared: u32,
-    window: u32,
-    seed: u32,
-    count: u32,
-}
-
-fn head_of(whole: bool, bytes: &[u8]) -> Head {
-    let settings = Settings {
-        base: number_at(bytes, 1),
-        length: number_at(bytes, 2),
-        lo: number_at(bytes, 3),
-        hi: number_at(bytes, 4),
-    };
-    Head {
-        whole: whole,
-        what: number_at(bytes, 0),
-        settings: settings,
-        shared: number_at(bytes, 5),
-        window: number_at(bytes, 6),
-        seed: number_at(bytes, 7),
-        count: number_at(bytes, 8),
-    }
-}
-
-fn read_head() -> Head {
-    let mut bytes = [0u8; 36];
-    let whole = testing::read_bytes(&mut bytes);
-    head_of(whole, &bytes)
-}
 
 fn access_of(bytes: &[u8]) -> Access {
     let packed = number_at(bytes, 0);
@@ -107,36 +72,6 @@ fn fill(memory: &mut [u8], seed: u64) {
     }
 }
 
-// WHAT IT WRITES: lines of decimal numbers
-
-fn show_answered(n: u8, v: u32, x: u32) {
-    show(n as u64, b' ');
-    show(v as u64, b' ');
-    show(x as u64, b'\n');
-}
-
-fn show_answer(answer: Answer) {
-    match answer {
-        Answer::Done(v, x) => show_answered(0, v, x),
-        Answer::Refused(n) => show_answered(n, 0, 0),
-    }
-}
-
-// A digest with one byte more.
-fn with_byte(digest: u64, byte: u8) -> u64 {
-    (digest % 4294967296 * 16777619 + byte as u64) % 4294967296
-}
-
-fn digest(bytes: &[u8]) -> u64 {
-    let mut sum = 0;
-    let mut i = 0;
-    while i < bytes.len() {
-        sum = with_byte(sum, bytes[i]);
-        i += 1;
-    }
-    sum
-}
-
 // THE CASES
 
 fn answer_call(card: Card, shared: &mut [u8], window: &mut [u8], call: Call) -> Outcome {
@@ -156,7 +91,7 @@ fn run_calls(card: Card, shared: &mut [u8], window: &mut [u8], count: u32) -> Ca
         let call = read_call();
         let outcome = answer_call(now, shared, window, call);
         let answer = outcome.answer;
-        show_answer(answer);
+        case_card::show_answer(answer);
         now = outcome.card;
         left -= 1;
     }
@@ -168,7 +103,7 @@ fn run_source<'a>(settings: Settings, shared: &'a [u8], window: &'a [u8]) {
     let q = read_access();
     let part = source::source(settings, shared, window, q.s, q.a, q.b, q.c);
     show(part.len() as u64, b' ');
-    show(digest(part), b'\n');
+    show(testing::digest(part), b'\n');
 }
 
 fn run_sources<'a>(settings: Settings, shared: &'a [u8], window: &'a [u8], count: u32) {
@@ -179,22 +114,12 @@ fn run_sources<'a>(settings: Settings, shared: &'a [u8], window: &'a [u8], count
     }
 }
 
-// The card of a case: a given record, or a fresh card, whose number is written.
-fn first_card(what: u32, settings: Settings) -> Card {
-    if what == 0 {
-        return case_card::read_card(settings);
-    }
-    let new = card::fresh(settings);
-    show(new.number as u64, b'\n');
-    new.card
-}
-
 // Calls to the card of a case, then the record and the digests.
 fn run_card(what: u32, settings: Settings, count: u32, shared: &mut [u8], window: &mut [u8]) {
-    let card = first_card(what, settings);
+    let card = case_card::first_card(what, settings);
     case_card::show_card(run_calls(card, shared, window, count));
-    show(digest(shared), b' ');
-    show(digest(window), b'\n');
+    show(testing::digest(shared), b' ');
+    show(testing::digest(window), b'\n');
 }
 
 // A case with these memories.
@@ -211,7 +136,7 @@ fn run_on(head: Head, shared: &mut [u8], window: &mut [u8]) {
 
 // Reads a case and answers it; false where the input ends.
 fn run_case(shared: &mut [u8], window: &mut [u8]) -> bool {
-    let head = read_head();
+    let head = case_card::read_head();
     if !head.whole {
         return false;
     }

@@ -10,7 +10,9 @@ use Rattle.model.specs.Runs.{Outcome, Entry, run}
 use Rattle.model.specs.Accesses.{Access, access}
 use Rattle.model.specs.Registers.{registerAccess}
 use Rattle.model.specs.Calls.{Call}
-use Rattle.model.specs.Bench.{q, d, g, replaySettings, bench}
+use Rattle.model.specs.Pins.{decode}
+use Rattle.model.specs.Bursts.{burst}
+use Rattle.model.specs.Bench.{q, d, g, p, bw, br, replaySettings, bench}
 use Rattle.reordering.specs.Roles.{TransferAction, roles, moved}
 use Rattle.reordering.specs.Reordering.{quiet, actionOf, StepsMoveOf}
 use Rattle.reordering.specs.CallReordering.{noted, notedAction, quietCall}
@@ -237,3 +239,42 @@ byRegistersMoved =
 pub by-registers-same : Same noted notedAction quietCall calls-move byRegisters byRegistersMoved
 unfolding bench freshCard access registerAccess sound readDword writeDword
 by-registers-same = worked noted notedAction quietCall calls-move byRegisters byRegistersMoved refl refl
+
+-- two dwords to shared addresses 4 to 11; between start and steps bursts: writes in each mode right beside that range, lanes 2 and 3 of the dword
+-- before it and all of the one behind it; a phase without lanes in it; a read beside it into a list with a place more; one that 13 stops far from
+-- it; and two inside it that are refused. Behind them a burst that reads the destination.
+abbrev pub amongBursts : List Call
+amongBursts =
+    d 4 0 0 0x10000000 0x04030201 0
+    ∷ d 14 0 0 4 0x10000000 8
+    ∷ bw 1 0 0 (p 0b1000 0x33 ∷ p 0b1100 0x44 ∷ [])
+    ∷ d 15 0 0 0 0 0
+    ∷ bw 1 1 3 (p 0b0000 0x2211 ∷ p 0b1000 0x4433 ∷ [])
+    ∷ bw 1 3 2 (p 0b1111 0x99 ∷ p 0b0000 0x44332211 ∷ [])
+    ∷ br 1 1 3 (p 0b0000 0 ∷ p 0b1000 0 ∷ []) (7 ∷ 8 ∷ 9 ∷ [])
+    ∷ bw 1 3 4095 (p 0 1 ∷ p 0 2 ∷ [])
+    ∷ bw 0 3 1 (p 0 1 ∷ [])
+    ∷ br 1 3 1 (p 0 0 ∷ []) []
+    ∷ d 15 1 0 0 0 0
+    ∷ br 1 0 1 (p 0b0000 0 ∷ p 0b0100 0 ∷ p 0b1000 0 ∷ p 0b1100 0 ∷ p 0b0000 0 ∷ []) (0 ∷ 0 ∷ 0 ∷ 0 ∷ 0 ∷ [])
+    ∷ []
+
+abbrev pub amongBurstsMoved : List Call
+amongBurstsMoved =
+    d 4 0 0 0x10000000 0x04030201 0
+    ∷ d 14 0 0 4 0x10000000 8
+    ∷ d 15 0 0 0 0 0
+    ∷ d 15 1 0 0 0 0
+    ∷ bw 1 0 0 (p 0b1000 0x33 ∷ p 0b1100 0x44 ∷ [])
+    ∷ bw 1 1 3 (p 0b0000 0x2211 ∷ p 0b1000 0x4433 ∷ [])
+    ∷ bw 1 3 2 (p 0b1111 0x99 ∷ p 0b0000 0x44332211 ∷ [])
+    ∷ br 1 1 3 (p 0b0000 0 ∷ p 0b1000 0 ∷ []) (7 ∷ 8 ∷ 9 ∷ [])
+    ∷ bw 1 3 4095 (p 0 1 ∷ p 0 2 ∷ [])
+    ∷ bw 0 3 1 (p 0 1 ∷ [])
+    ∷ br 1 3 1 (p 0 0 ∷ []) []
+    ∷ br 1 0 1 (p 0b0000 0 ∷ p 0b0100 0 ∷ p 0b1000 0 ∷ p 0b1100 0 ∷ p 0b0000 0 ∷ []) (0 ∷ 0 ∷ 0 ∷ 0 ∷ 0 ∷ [])
+    ∷ []
+
+pub among-bursts-same : Same noted notedAction quietCall calls-move amongBursts amongBurstsMoved
+unfolding bench freshCard access burst decode sound readDword writeDword
+among-bursts-same = worked noted notedAction quietCall calls-move amongBursts amongBurstsMoved refl refl

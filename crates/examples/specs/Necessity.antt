@@ -6,7 +6,7 @@ use mathlib.Core.Path.{_≡_, refl, ap, sym, _∙_}
 use mathlib.Core.Bool.{Bool, true, false, not, _&&_, _||_}
 use mathlib.Core.List.{List, [], _∷_, map}
 use Prim.Native.Nat.{ℕ}
-use lib.ListN.{replicate}
+use lib.ListN.{replicate, getD}
 use lib.Dec.{eqb}
 use borrow.Author.Tests.{eq-eqb}
 use Rattle.model.specs.Choice.{if_then_else_, every}
@@ -18,10 +18,12 @@ use Rattle.model.specs.Accesses.{Access, Answer, access}
 use Rattle.model.specs.Registers.{registerAccess}
 use Rattle.model.specs.Calls.{Call}
 use Rattle.model.specs.TestLaws.{no-both}
-use Rattle.model.specs.Bench.{q, d, g, replaySettings, bench}
+use Rattle.model.specs.Pins.{decode}
+use Rattle.model.specs.Bursts.{burst}
+use Rattle.model.specs.Bench.{q, d, g, p, bw, br, replaySettings, bench}
 use Rattle.reordering.specs.Roles.{TransferAction, roles, moved}
 use Rattle.reordering.specs.Reordering.{Touch, starting, resetting, readingInterrupts, writingInterrupts, askingLine, reading, writing, touches, inSource, disturbs, actionOf, StepsMoveOf, StepsMoveIf}
-use Rattle.reordering.specs.CallReordering.{Reply, noted, notedAction, callTouches, CallsMoveIf}
+use Rattle.reordering.specs.CallReordering.{Reply, noted, notedAction, callTouches, quietCall, CallsMoveIf}
 use Rattle.reordering.specs.Premise.{undisturbed, premise}
 
 -- THE CONDITIONS, each with a number of its own
@@ -57,7 +59,7 @@ abbrev pub quietBut : Condition → Request → Entry Access Answer → Bool
 quietBut c t e = stillBut c t (touches e)
 
 abbrev pub quietCallBut : Condition → Request → Entry Call Reply → Bool
-quietCallBut c t e = stillBut c t (callTouches (e .access) (e .answer .answer))
+quietCallBut c t e = stillBut c t (callTouches (e .access) (e .answer .told .answer))
 
 -- A CLAIM WITHOUT THE CONDITION IS FALSE
 
@@ -146,7 +148,7 @@ destination-read-needed = refuted access actionOf (λ r. r .v) (quietBut destina
 -- CALLS
 
 abbrev noteV : Reply → ℕ
-noteV r = r .answer .v
+noteV r = r .told .answer .v
 
 -- a write of DMACTL that is refused because the transfer runs would be done after it
 abbrev controlWrite : List Call
@@ -179,3 +181,28 @@ registerWritten = g 0 0x04B8 1 4 ∷ g 0 0x04BC 1 0 ∷ g 0 0x04E4 1 0x200 ∷ d
 pub register-written-needed : CallsMoveIf (quietCallBut noInterruptWrite) → ⊥
 unfolding bench freshCard access registerAccess sound readDword writeDword
 register-written-needed = refuted noted notedAction noteV (quietCallBut noInterruptWrite) registerWritten refl refl
+
+-- BURSTS
+
+-- as if a burst stopped by 13 counted as no access
+abbrev quietUnlessStopped : Request → Entry Call Reply → Bool
+quietUnlessStopped t e = eqb (e .answer .told .answer .number) 13 || quietCall t e
+
+-- its one phase done stores the source before the step that copies it
+abbrev sourceWrittenAndStopped : List Call
+sourceWrittenAndStopped = d 14 0 1 16380 0x10000000 4 ∷ bw 1 3 4095 (p 0 0x55 ∷ p 0 0x66 ∷ []) ∷ d 15 0 0 0 0 0 ∷ d 3 0 0 0x10000000 0 0 ∷ []
+
+pub overrun-counts-needed : CallsMoveIf quietUnlessStopped → ⊥
+unfolding bench freshCard access burst decode sound readDword writeDword
+overrun-counts-needed = refuted noted notedAction noteV quietUnlessStopped sourceWrittenAndStopped refl refl
+
+-- a burst that reads the destination before the step that stores it has the same number, V and X; the list tells
+abbrev firstListed : Reply → ℕ
+firstListed r = getD (r .told .list) 0 0
+
+abbrev destinationListed : List Call
+destinationListed = d 4 0 0 0x10000000 0x66 0 ∷ d 14 0 0 0 0x10000000 4 ∷ br 1 0 0 (p 0 0 ∷ []) (0 ∷ []) ∷ d 15 0 0 0 0 0 ∷ []
+
+pub destination-listed-needed : CallsMoveIf (quietCallBut destinationUnread) → ⊥
+unfolding bench freshCard access burst decode sound readDword writeDword
+destination-listed-needed = refuted noted notedAction firstListed (quietCallBut destinationUnread) destinationListed refl refl

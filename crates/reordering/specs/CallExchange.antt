@@ -1,5 +1,6 @@
 -- Rule 3 of lists of calls: the two laws of `Moving` for the machine that notes what each call was to the transfers.
--- A register access that is an access of document 01 changes places as that access does; of the others none looks at what a step changes.
+-- A register access that is an access of document 01 changes places as that access does; of the others none looks at what a step changes. A burst
+-- changes places as its single accesses do.
 use mathlib.Core.Path.{_≡_, refl, sym, ap, _∙_, subst}
 use mathlib.Core.Logic.{_≢_}
 use mathlib.Core.Bool.{Bool, true, false, not}
@@ -16,17 +17,19 @@ use Rattle.model.specs.Arbitration.{pairOf, flag, flagBit}
 use Rattle.model.specs.Mailboxes.{mailFor}
 use Rattle.model.specs.Settings.{Settings}
 use Rattle.model.specs.Transfer.{Request, Transfer, idle, running, isIdle}
-use Rattle.model.specs.State.{World, freshWorld}
+use Rattle.model.specs.State.{State, World, freshWorld}
 use Rattle.model.specs.Changes.{Change, applyAll, nothing, Effect}
 use Rattle.model.specs.Runs.{Outcome, run, entryAt}
 use Rattle.model.specs.Accesses.{Access, Answer, Kind, Row, kindOf, numberOf, row, fit, checks, settled, access}
 use Rattle.model.specs.RegisterMap.{Resource, port, dmaRegister, dmactl, arbutil, interruptsOf, mailFrom, sharedAt, unmodelled, resourceAt, isModelled}
 use Rattle.model.specs.Registers.{RegisterAccess, plainly, flagWritten, flagsWritten, registerRow, registerRowOf, registerChecks, registerAccess}
-use Rattle.model.specs.Calls.{Call, direct, register, call}
+use Rattle.model.specs.Bursts.{Told}
+use Rattle.model.specs.Calls.{Call, direct, register, bursting, plain, call}
 use Rattle.model.specs.TestLaws.{All, no-both, if-case}
 use Rattle.model.specs.CheckLaws.{Pass}
 use Rattle.model.specs.RegisterLaws.{register-passed, flag-same}
-use Rattle.reordering.specs.Roles.{TransferAction, steps, none, roles, moved, Owned}
+use Rattle.model.specs.BurstLaws.{burst-keeps}
+use Rattle.reordering.specs.Roles.{steps, none, roles, moved, Owned}
 use Rattle.reordering.specs.Reordering.{Touch, starting, startTouches, doneTouches, disturbs, quiet, doneAction, actionOf}
 use Rattle.reordering.specs.CallReordering.{registerAction, callAction, Reply, noted, notedAction, isDma, doneHere, quietCall, CallsMove}
 use Rattle.reordering.specs.Moving.{Follows, Exchange, moved-same, moved-perm, owned}
@@ -34,6 +37,7 @@ use Rattle.reordering.specs.Commute.{Plain, keep-transfer, Like}
 use Rattle.reordering.specs.Kinds.{plain-transfer}
 use Rattle.reordering.specs.Stepping.{opened, openIn, idle-is, After, after-follows, after-open, transfer-after}
 use Rattle.reordering.specs.Exchange.{Swapped, swap-refused, swap-done, step-told, swapped, fresh-idle}
+use Rattle.reordering.specs.BurstExchange.{either, no-steps, burst-swapped}
 
 -- THE PREMISE
 
@@ -101,15 +105,9 @@ register-after w q = by (refusal (registerChecks w q)) refl
 pub call-after : (w : World) (c : Call) → After (notedAction (entryAt noted w c)) (w .card .transfer) (noted w c .world .card .transfer)
 call-after w (direct q) = transfer-after w q
 call-after w (register q) = register-after w q
+call-after w (bursting b) = ap (λ (s : State). s .transfer) (burst-keeps w b .card)
 
 -- THE SECOND LAW
-
-either : {A : Type 0} {a : A} (b : Bool) → (if b then a else a) ≡ a
-either true = refl
-either false = refl
-
-no-steps : (c : Bool) → _≢_ {A = TransferAction Request} none (steps c)
-no-steps c h = let z : _≡_ {A = ℕ} 0 1 = cc in omega arith
 
 -- a row that always refuses
 never : {X : Type 0} (a b c : Bool) (m : ℕ) (cs : List Check) → refusal ((1 for a) ∷ (2 for b) ∷ (11 for c) ∷ (suc m for true) ∷ cs) ≡ 0 → X
@@ -273,8 +271,11 @@ register-no-step w o a b = by (eqb (a .number) 0) (resourceAt (o .offset)) (o .d
     by true (sharedAt a) n = no-steps b
     by true unmodelled n = no-steps b
 
+abbrev told : World → Call → Told → Reply
+told w c a = record { told = a; action = callAction w c (a .answer) }
+
 -- in a span nothing that is quiet starts a transfer, so what a call was to the transfers is the same in both orders
-register-none : (w : World) (o : RegisterAccess) (a : Answer) (t : Request) → quietCall t (record { access = register o; answer = record { answer = a; action = callAction w (register o) a } }) ≡ true →
+register-none : (w : World) (o : RegisterAccess) (a : Answer) (t : Request) → quietCall t (record { access = register o; answer = told w (register o) (plain a) }) ≡ true →
     callAction w (register o) a ≡ none
 register-none w o a t calm = by (eqb (a .number) 0) (resourceAt (o .offset)) (o .direction) calm
   where
@@ -291,21 +292,26 @@ register-none w o a t calm = by (eqb (a .number) 0) (resourceAt (o .offset)) (o 
     by true (sharedAt a) n h = refl
     by true unmodelled n h = refl
 
-abbrev told : World → Call → Answer → Reply
-told w c a = record { answer = a; action = callAction w c a }
-
 pub call-exchange : Exchange noted notedAction quietCall opened
 call-exchange w o (register s) t q b h n calm k = absurd (register-no-step (call w o .world) s (registerAccess (call w o .world) s .answer) b k)
+call-exchange w o (bursting s) t q b h n calm k = absurd (no-steps b k)
 call-exchange w (direct o) (direct s) t q b h n calm k =
     let x = swapped w o s t q b h n calm k in
-    record { step = ap (told w (direct s)) (x .step); other = ap (told w (direct o)) (x .other); world = x .world }
+    record { step = ap (λ a. told w (direct s) (plain a)) (x .step); other = ap (λ a. told w (direct o) (plain a)) (x .other); world = x .world }
 call-exchange w (register o) (direct s) t q b h n calm k =
     let x = register-swapped w o s t q b h calm k in
     let w′ = access w s .world in
     let a = registerAccess w o .answer in
     let here : callAction w (register o) a ≡ none = register-none w o a t calm in
     let there : callAction w′ (register o) a ≡ none = register-none w′ o a t calm in
-    record { step = ap (told w (direct s)) (x .step); other = ap (told w′ (register o)) (x .other) ∙ ap (λ κ. record { answer = a; action = κ }) (there ∙ sym here); world = x .world }
+    record {
+      step = ap (λ a. told w (direct s) (plain a)) (x .step);
+      other = ap (λ a. told w′ (register o) (plain a)) (x .other) ∙ ap (λ κ. record { told = plain a; action = κ }) (there ∙ sym here);
+      world = x .world;
+    }
+call-exchange w (bursting o) (direct s) t q b h n calm k =
+    let x = burst-swapped w o s t q b h calm k in
+    record { step = ap (λ a. told w (direct s) (plain a)) (x .step); other = ap (told w (bursting o)) (x .other); world = x .world }
 
 -- RULE 3 OF CALLS
 

@@ -1,7 +1,7 @@
 -- "So a transfer ends within size / 4 steps": of each start done in a list, the transfer's done steps are at most size / 4, and the last of so many ends it.
 -- By induction over the list: every done step that does not end the transfer leaves one dword fewer to go, and at least one. Of any machine that
 -- keeps a record sound and whose actions tell of the transfer as `After` says; and so of accesses and of calls.
-use mathlib.Core.Path.{_≡_, refl, _∙_, subst}
+use mathlib.Core.Path.{_≡_, refl, ap, _∙_, subst}
 use mathlib.Core.Logic.{_⊎_, inl, inr}
 use mathlib.Core.Bool.{true, false}
 use mathlib.Core.List.{List, [], _∷_, map}
@@ -13,9 +13,10 @@ use Rattle.model.specs.Transfer.{Request, Transfer, running, transferSound}
 use Rattle.model.specs.State.{World, sound, freshWorld}
 use Rattle.model.specs.Runs.{Outcome, Entry, run, entryAt}
 use Rattle.model.specs.Accesses.{Access, access}
-use Rattle.model.specs.Calls.{Call, direct, register}
+use Rattle.model.specs.Calls.{Call, direct, register, bursting}
 use Rattle.model.specs.Soundness.{sound-parts, stays-sound, fresh-sound, sound-transfer}
 use Rattle.model.specs.RegisterLaws.{register-stays-sound}
+use Rattle.model.specs.BurstLaws.{burst-keeps}
 use Rattle.reordering.specs.Roles.{TransferAction, resets, starts, steps, none, openAfter, countAfter, Role, startOf, stepOf, neither, roleOf, rolesFrom, roles, stepsOf}
 use Rattle.reordering.specs.Reordering.{actionOf}
 use Rattle.reordering.specs.CallReordering.{noted, notedAction}
@@ -117,5 +118,6 @@ pub calls-end : (settings : Settings) (shared window : List ℕ) (calls : List C
 calls-end = every-transfer-ends noted notedAction call-after stays
   where
     stays : (w : World) (c : Call) → sound (w .card) ≡ true → sound (noted w c .world .card) ≡ true
-    stays w (direct q) = stays-sound w q
-    stays w (register q) = register-stays-sound w q
+    stays w (direct q) h = stays-sound w q h
+    stays w (register q) h = register-stays-sound w q h
+    stays w (bursting b) h = ap sound (burst-keeps w b .card) ∙ h

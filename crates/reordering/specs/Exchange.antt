@@ -3,7 +3,7 @@
 use mathlib.Core.Path.{_≡_, refl, sym, ap, _∙_, subst}
 use mathlib.Core.Logic.{_≢_, _⊎_, inl, inr}
 use mathlib.Core.Bool.{Bool, true, false, not, _&&_, _||_}
-use mathlib.Core.List.{List, [], _∷_, _++_, map, List·Permᴰ}
+use mathlib.Core.List.{List, [], _∷_, map, List·Permᴰ}
 use Prim.Native.Nat.{ℕ, zero, suc, _+_, _-_, _*_, _≤_}
 use native.Mathlib.Omega.{arith}
 use lib.Dec.{eqb}
@@ -18,7 +18,7 @@ use Rattle.model.specs.Changes.{Effect, worldAfter}
 use Rattle.model.specs.Steps.{stepped}
 use Rattle.model.specs.Runs.{Outcome, Entry, run, entryAt}
 use Rattle.model.specs.Accesses.{Access, Answer, Kind, step, kindOf, rowOf, fit, checks, settled, access, numberOf}
-use Rattle.model.specs.TestLaws.{All, no-both, and-left, and-right, or-left, if-case}
+use Rattle.model.specs.TestLaws.{All, no-both, and-left, and-right, or-left, every-append, every-map, if-case}
 use Rattle.model.specs.CheckLaws.{Pass, pass-refusal}
 use Rattle.model.specs.LaneLaws.{Covers, lane-byte, covers-pci}
 use Rattle.model.specs.KindLaws.{number-at, kind-at, refusedWith}
@@ -36,16 +36,6 @@ answerOf e = record { number = 0; v = e .v; x = e .x }
 
 -- QUIET ENTRIES
 
-append-every : {A : Type 0} (p : A → Bool) (l m : List A) → every p (l ++ m) ≡ true → (every p l ≡ true) × (every p m ≡ true)
-append-every p [] m h = (refl, h)
-append-every p (a ∷ l) m h =
-    let r = append-every p l m (and-right (p a) (every p (l ++ m)) h) in
-    (rw (and-left (p a) (every p (l ++ m)) h) (r .0), r .1)
-
-map-every : {A B : Type 0} (p : B → Bool) (f : A → B) (l : List A) → every p (map f l) ≡ every (λ a. p (f a)) l
-map-every p f [] = refl
-map-every p f (a ∷ l) = ap (p (f a) &&_) (map-every p f l)
-
 module _ (t : Request) (q : Access) (r : Answer) (h : quiet t (record { access = q; answer = r }) ≡ true) where
   abbrev still : Touch → Bool
   still touch = not (disturbs t touch)
@@ -54,7 +44,10 @@ module _ (t : Request) (q : Access) (r : Answer) (h : quiet t (record { access =
   entry = record { access = q; answer = r }
 
   halves : (every still (startTouches entry) ≡ true) × (every still (if eqb (r .number) 0 then doneTouches (kindOf (q .kind)) q else []) ≡ true)
-  halves = append-every still (startTouches entry) (if eqb (r .number) 0 then doneTouches (kindOf (q .kind)) q else []) h
+  halves =
+      let done = if eqb (r .number) 0 then doneTouches (kindOf (q .kind)) q else [] in
+      let both = sym (every-append still (startTouches entry) done) ∙ h in
+      (and-left (every still (startTouches entry)) (every still done) both, and-right (every still (startTouches entry)) (every still done) both)
 
   -- a quiet entry is no start
   quiet-no-start : q .kind ≢ numberOf Kind.start
@@ -69,7 +62,7 @@ module _ (t : Request) (q : Access) (r : Answer) (h : quiet t (record { access =
       (i : ℕ) → Covers 4 (q .a) (q .s) i → disturbs t (touch i) ≡ false
   quiet-byte z k touch e d i c =
       not-true (disturbs t (touch i)) (lane-byte (λ i. still (touch i)) 4 (q .a) (q .s) i
-      (sym (map-every still touch (laneBytes 4 (q .a) (q .s))) ∙ rw d at (quiet-done z k e)) c)
+      (sym (every-map still touch (laneBytes 4 (q .a) (q .s))) ∙ rw d at (quiet-done z k e)) c)
 
 -- DONE STEPS
 
@@ -178,7 +171,7 @@ step-refusal o k w w′ f f′ y n h =
 -- CHANGING PLACES
 
 -- What is done in a world, whatever it is, and the step right after it; and the other way round.
-pub record Swapped (act : World → Outcome Answer World) (w : World) (s : Access) : Type 0 where
+pub record Swapped {R : Type 0} (act : World → Outcome R World) (w : World) (s : Access) : Type 0 where
   pub step : access w s .answer ≡ access (act w .world) s .answer
   pub other : act (access w s .world) .answer ≡ act w .answer
   pub world : act (access w s .world) .world ≡ access (act w .world) s .world

@@ -6,6 +6,8 @@ pub mod Commute
 pub mod Kinds
 pub mod Stepping
 pub mod Exchange
+pub mod BurstExchange
 pub mod CallExchange
 pub mod Premise
+pub mod Flattening
 pub mod Ending

@@ -28,7 +28,7 @@ leaves-by s (suc d) pci size = rw (eqb·suc-zero d)
 then-source : (t : Request) (leaves : Bool) (n : ℕ) → n ≡ refusal (requestChecks t) →
     (if not (eqb n 0) then n else if leaves then 9 else 0) ≡ refusal (requestChecks t ++ (9 for leaves ∷ []))
 then-source t leaves n e =
-    swapped n (if leaves then 9 else 0) ∙ rw e (sym (refusal-append 7 (lit< tt) (requestChecks t) (9 for leaves ∷ []) (lit≤ tt, (lit≤ tt, (lit≤ tt, tt)))))
+    swapped n (if leaves then 9 else 0) ∙ rw e (sym (refusal-append (requestChecks t) (9 for leaves ∷ []) (lit< tt, (lit< tt, (lit< tt, tt)))))
   where
     swapped : (n later : ℕ) → (if not (eqb n 0) then n else later) ≡ (if eqb n 0 then later else n)
     swapped zero later = refl

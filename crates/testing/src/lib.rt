@@ -1,4 +1,4 @@
-// What the test programs share: bytes of a case read from standard input, numbers of a case, numbers written to standard output.
+// What the test programs share: bytes of a case read from standard input, numbers of a case, digests, numbers written to standard output.
 // No contract can say what is read or written.
 ghost use mathlib.Core.Path.{_≡_};
 ghost use Prim.Native.Nat.{_+_, _*_};
@@ -6,6 +6,7 @@ ghost use lib.Dec.{ltb};
 ghost use lib.ListN.{length};
 ghost use Rattle.model.specs.Choice.{if_then_else_};
 ghost use Rattle.model.specs.Lanes.{readDword};
+ghost use Rattle.testing.specs.Bridge.{withNumber, digestFrom};
 
 // Nothing says that an input ends, so a program counts its turns: more than it has cases.
 pub const TURNS: u32 = 1000000;
@@ -24,6 +25,31 @@ pub fn number_at(bytes: &[u8], place: u8) -> u32
         return 0;
     }
     lanes::read_dword(bytes, at, lanes::ALL_LANES)
+}
+
+// A digest with one number more, and the digest of bytes.
+pub fn with_number(digest: u64, number: u32) -> u64
+    ensures { λ r. ⌜ r ≡ withNumber digest number ⌝ }
+{
+    (digest % 4294967296 * 16777619 + number as u64) % 4294967296
+}
+
+fn with_byte(digest: u64, byte: u8) -> u64
+    ensures { λ r. ⌜ r ≡ withNumber digest byte ⌝ }
+{
+    with_number(digest, byte as u32)
+}
+
+pub fn digest(bytes: &[u8]) -> u64
+    ensures { λ r. ⌜ r ≡ digestFrom 0 (now (bytes .entry)) ⌝ }
+{
+    let mut sum = 0;
+    let mut i = 0;
+    while i < bytes.len() {
+        sum = with_byte(sum, bytes[i]);
+        i += 1;
+    }
+    sum
 }
 
 // A number, and the byte after it.

@@ -1,10 +1,14 @@
 //! What each test program reads, and what it must write.
 
 mod bays;
+mod bench;
+mod bursts;
+mod case;
 mod convert;
 mod device;
 mod pins;
 mod replay;
+mod sections;
 mod trace;
 
 use crate::stored::Stored;
@@ -31,6 +35,8 @@ pub fn files() -> Vec<Stored> {
         bays::program(),
         trace::program(),
         device::program(),
+        bursts::program(),
+        bench::program(),
     ];
     programs
         .into_iter()

@@ -1,7 +1,8 @@
 //! Records, accesses and memories as antt text, in the layout of the formatter.
 
 use crate::access::{Access, Answer};
-use crate::call::Call;
+use crate::bursts::Burst;
+use crate::call::{Call, Given};
 use crate::card::{Card, Mailboxes, Pair};
 use crate::decimal::decimal;
 use crate::dma::Dma;
@@ -165,11 +166,30 @@ pub fn entry(access: &Access, answer: &Answer) -> String {
     format!("q {access} gives r {answer}")
 }
 
-/// A call: `d` and the numbers of a direct access, `g` and those of a register access.
-pub fn call(call: &Call, answer: &Answer) -> String {
-    let word = match call {
-        Call::Direct(_) => "d",
-        Call::Register(_) => "g",
+/// A call: `d` and the numbers of a direct access, `g` and those of a register access, `bw` and a
+/// burst that writes, `br` and one that reads, with the list as it was and as it is left.
+pub fn call(call: &Call, given: &Given) -> String {
+    let asked = match call {
+        Call::Direct(_) => format!("d {call}"),
+        Call::Register(_) => format!("g {call}"),
+        Call::BurstWrite(burst) => format!("bw {}", self::burst(burst)),
+        Call::BurstRead(burst, list) => format!("br {} {}", self::burst(burst), numbers(list)),
     };
-    format!("{word} {call} gets r {}", decimal(answer.numbers()))
+    let answered = format!("{asked} gets r {}", decimal(given.answer.numbers()));
+    match &given.list {
+        Some(list) => format!("{answered} leaving {}", numbers(list)),
+        None => answered,
+    }
+}
+
+/// Side, mode, start and the phases, `p` and pins and data of each.
+fn burst(burst: &Burst) -> String {
+    let phases = bracketed(&burst.phases, |phase| {
+        format!("p {} {}", phase.pins, phase.data)
+    });
+    format!("{} {} {} {phases}", burst.side, burst.mode, burst.start)
+}
+
+fn numbers(list: &[u32]) -> String {
+    bracketed(list, u32::to_string)
 }

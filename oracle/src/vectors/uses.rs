@@ -3,7 +3,7 @@
 use std::collections::BTreeSet;
 
 /// Modules, and what may be used of each.
-const OFFERED: [(&str, &[&str]); 14] = [
+const OFFERED: [(&str, &[&str]); 15] = [
     ("mathlib.Core.Path", &["refl"]),
     ("mathlib.Core.Bool", &["true", "false"]),
     ("mathlib.Core.List", &["List", "[]", "_∷_"]),
@@ -35,10 +35,23 @@ const OFFERED: [(&str, &[&str]); 14] = [
         &["sharedMemory", "windowMemory", "source"],
     ),
     ("Rattle.model.specs.Pins", &["decode"]),
+    ("Rattle.model.specs.Bursts", &["burst"]),
     ("Rattle.model.specs.Bays", &["at", "noBay"]),
     (
         "Rattle.model.specs.Bench",
-        &["q", "r", "_gives_", "d", "g", "_gets_", "CallCase"],
+        &[
+            "q",
+            "r",
+            "_gives_",
+            "d",
+            "g",
+            "p",
+            "bw",
+            "br",
+            "_gets_",
+            "_gets_leaving_",
+            "CallCase",
+        ],
     ),
     (
         "Rattle.cases.specs.Vectors",
@@ -91,9 +104,10 @@ fn words(text: &str) -> BTreeSet<&str> {
         .collect()
 }
 
-fn use_line(module: &str, names: &[&str], words: &BTreeSet<&str>) -> Option<String> {
-    // an operator is offered as `_∷_` and written without its places
-    let used = |name: &&&str| words.contains(name.trim_matches('_'));
+fn use_line(module: &str, names: &[&'static str], words: &BTreeSet<&str>) -> Option<String> {
+    // an operator is offered as `_∷_` and written without its places, in one sign or more
+    let signs = |name: &'static str| name.split('_').filter(|sign| !sign.is_empty());
+    let used = |name: &&&'static str| signs(name).all(|sign| words.contains(sign));
     let names: Vec<&str> = names.iter().filter(used).copied().collect();
     (!names.is_empty()).then(|| format!("use {module}.{{{}}}\n", names.join(", ")))
 }
@@ -124,6 +138,15 @@ mod tests {
         let text = "x = d 1 gets r 0 ∷ g 0x04bc gets r 0 ∷ y";
         let lines = "use mathlib.Core.List.{_∷_}\n\
                      use Rattle.model.specs.Bench.{r, d, g, _gets_}\n";
+        assert_eq!(uses(text), lines);
+    }
+
+    #[test]
+    fn bursts_by_their_words() {
+        let text =
+            "x = bw 1 0 0 [] gets r 0 0 0 ∷ br 1 0 0 (p 0 0 ∷ y) [] gets r 14 0 0 leaving []";
+        let lines = "use mathlib.Core.List.{[], _∷_}\n\
+                     use Rattle.model.specs.Bench.{r, p, bw, br, _gets_, _gets_leaving_}\n";
         assert_eq!(uses(text), lines);
     }
 }

@@ -1,6 +1,7 @@
 //! Builds one list of calls, on the world that they act on.
 
 use crate::access::{kind, Access};
+use crate::bursts::{Burst, Phase};
 use crate::call::Call;
 use crate::registers::map::{offset, DMA_REGISTERS};
 use crate::registers::RegisterAccess;
@@ -37,7 +38,7 @@ impl<'a> CallBuilder<'a> {
     /// Performs a call and keeps it.
     pub fn call(&mut self, call: impl Into<Call>) {
         let call = call.into();
-        self.drawing.world.call(call);
+        self.drawing.world.call(&call);
         self.calls.push(call);
     }
 
@@ -72,6 +73,30 @@ impl<'a> CallBuilder<'a> {
         self.read(LOCAL, offset);
     }
 
+    /// A burst write of these phases, each with pins and data.
+    pub fn burst_write(&mut self, side: u8, mode: u8, start: u32, phases: &[(u32, u32)]) {
+        self.call(Call::BurstWrite(burst(side, mode, start, phases)));
+    }
+
+    /// A burst read of these phases, into a list that holds so much.
+    pub fn burst_read(
+        &mut self,
+        side: u8,
+        mode: u8,
+        start: u32,
+        phases: &[(u32, u32)],
+        list: &[u32],
+    ) {
+        let burst = burst(side, mode, start, phases);
+        self.call(Call::BurstRead(burst, list.to_vec()));
+    }
+
+    /// A burst read of phases with these pins.
+    pub fn read_pins(&mut self, side: u8, mode: u8, start: u32, pins: &[u32], list: &[u32]) {
+        let phases: Vec<(u32, u32)> = pins.iter().map(|pins| (*pins, 0)).collect();
+        self.burst_read(side, mode, start, &phases, list);
+    }
+
     /// What a start by DMACTL needs.
     pub fn program(&mut self, side: u8, shared: u32, pci: u32, size: u32) {
         self.write(side, offset::DMALBASE, shared);
@@ -94,4 +119,9 @@ impl<'a> CallBuilder<'a> {
             side = 1 - side;
         }
     }
+}
+
+fn burst(side: u8, mode: u8, start: u32, phases: &[(u32, u32)]) -> Burst {
+    let phases = phases.iter().map(|(pins, data)| Phase::new(*pins, *data));
+    Burst::new(side, mode, start, phases.collect())
 }

@@ -1,12 +1,12 @@
-//! Lists of calls: direct and register accesses, mixed.
+//! Lists of calls: direct and register accesses and bursts, mixed.
 
 mod builder;
+pub mod burst_facts;
 mod choice;
 mod reached;
 mod scripts;
 
-use crate::access::Answer;
-use crate::call::Call;
+use crate::call::{Call, Given};
 use crate::card::{fresh, Card, Pair};
 use crate::dma::Dma;
 use crate::rng::Rng;
@@ -18,15 +18,21 @@ use crate::world::World;
 use super::coverage::Coverage;
 use super::plans::{found, First, BASE_ZERO, MIDDLE, NO_ABORT, SMALL};
 use builder::CallBuilder;
-use scripts::{mixed, refusals, registers, transfers, Script};
+use burst_facts::BurstFacts;
+use scripts::{bursts, mixed, refusals, registers, transfers, Script};
 
 pub use choice::Faulty;
 
 /// The draws of a list are those of its name.
 const SEEDS: Seeds = Seeds::new(2, &[]);
 
-/// The list of the lesson about zero.
-const LESSON: &str = "ZeroInRegisters";
+/// The lists of the lessons about zero and about narrow buses.
+const ZERO: &str = "ZeroInRegisters";
+const NARROW: &str = "NarrowBus";
+
+/// So many single accesses and calls without one the lists with bursts may have together: each takes
+/// the prover its time.
+const BURST_ACCESSES: usize = 160;
 
 pub struct CallList {
     /// What the list shows.
@@ -34,10 +40,12 @@ pub struct CallList {
     pub first: First,
     pub shared_length: u32,
     pub window_length: u32,
+    /// Its stored answers are those of zeroed memories.
+    pub of_zeroed: bool,
     pub calls: Vec<Call>,
 }
 
-/// All lists. Between them they reach every required fact, or this panics.
+/// The lists without bursts. Between them they reach every required fact, or this panics.
 pub fn lists() -> Vec<CallList> {
     let lists = vec![
         on_fresh("EveryRegister", SMALL, registers::every),
@@ -48,7 +56,7 @@ pub fn lists() -> Vec<CallList> {
         on_fresh("PlainReads", SMALL, registers::plain_reads),
         on_fresh("FlagsByRegister", BASE_ZERO, registers::flags),
         on_record("RegistersFoundAtWork", found_programmed(), transfers::found),
-        on_fresh(LESSON, Settings::REPLAY, scripts::zero),
+        on_fresh(ZERO, Settings::REPLAY, scripts::zero),
         on_fresh("MixedCalls", NO_ABORT, mixed::seldom_refused),
         on_record(
             "MixedCallsAtWork",
@@ -63,12 +71,46 @@ pub fn lists() -> Vec<CallList> {
     lists
 }
 
-/// The calls of the lesson about zero, with their answers.
-pub fn zero_in_registers() -> Vec<(Call, Answer)> {
-    let list = on_fresh(LESSON, Settings::REPLAY, scripts::zero);
-    let mut world = list.zeroed();
-    let answered = |call: &Call| (*call, world.call(*call));
-    list.calls.iter().map(answered).collect()
+/// The lists with bursts. Between them they reach every fact about bursts, or this panics.
+pub fn burst_lists() -> Vec<CallList> {
+    let lists = vec![
+        on_fresh("BurstsInEachMode", SMALL, bursts::each_mode),
+        on_fresh("BurstsThatOverrun", BASE_ZERO, bursts::overruns),
+        on_fresh("BurstsRefused", MIDDLE, bursts::refused),
+        on_record("BurstsToUnsoundCard", unsound(), bursts::with_1),
+        short_memory(
+            "BurstsWithShortMemory",
+            without_size(),
+            bursts::in_short_memory,
+        ),
+        on_fresh("BurstsBesideATransfer", MIDDLE, bursts::beside_a_transfer),
+        narrow(),
+    ];
+    let mut facts = BurstFacts::default();
+    for list in &lists {
+        facts.observe(list.zeroed(), &list.calls);
+    }
+    facts.assert_reached();
+    let accesses: usize = lists.iter().map(CallList::accesses).sum();
+    assert!(accesses <= BURST_ACCESSES, "{accesses}");
+    lists
+}
+
+fn narrow() -> CallList {
+    CallList {
+        of_zeroed: true,
+        ..on_fresh(NARROW, Settings::REPLAY, bursts::narrow)
+    }
+}
+
+/// The calls of the lesson about zero, with what each gives.
+pub fn zero_in_registers() -> Vec<(Call, Given)> {
+    on_fresh(ZERO, Settings::REPLAY, scripts::zero).given()
+}
+
+/// The calls of the lesson about narrow buses, with what each gives.
+pub fn narrow_bus() -> Vec<(Call, Given)> {
+    narrow().given()
 }
 
 /// So many random calls to a world.
@@ -98,6 +140,7 @@ fn follow(name: &'static str, first: First, shared_length: u32, script: Script) 
         shared_length,
         window_length: first.settings().length,
         first,
+        of_zeroed: false,
         calls: Vec::new(),
     };
     let mut coverage = Coverage::default();
@@ -110,10 +153,30 @@ fn follow(name: &'static str, first: First, shared_length: u32, script: Script) 
 
 impl CallList {
     /// What the list starts from, between zeroed memories.
-    fn zeroed(&self) -> World {
+    pub fn zeroed(&self) -> World {
         let zeros = |length| vec![0; length as usize];
         let (shared, window) = (zeros(self.shared_length), zeros(self.window_length));
         self.first.world(shared, window)
+    }
+
+    /// How many accesses it has, a burst as those that it equals, or as one where it does none.
+    fn accesses(&self) -> usize {
+        let mut world = self.zeroed();
+        let accesses = |call: &Call| match (call, world.call(call).answer.v) {
+            (Call::BurstWrite(_) | Call::BurstRead(..), phases) => phases.max(1) as usize,
+            _ => 1,
+        };
+        self.calls.iter().map(accesses).sum()
+    }
+
+    /// The calls with what each gives, from zeroed memories.
+    fn given(self) -> Vec<(Call, Given)> {
+        let mut world = self.zeroed();
+        let given = |call: Call| {
+            let given = world.call(&call);
+            (call, given)
+        };
+        self.calls.into_iter().map(given).collect()
     }
 }
 

@@ -115,7 +115,7 @@ fn reached(lists: &[CallList]) -> BTreeSet<Fact> {
         let mut world = list.zeroed();
         for call in &list.calls {
             let before = world.clone();
-            let answer = world.call(*call);
+            let answer = world.call(call).answer;
             if let Call::Register(access) = call {
                 observe(&before, access, &answer, &mut facts);
             }

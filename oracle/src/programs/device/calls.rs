@@ -12,7 +12,8 @@ use crate::rng::Rng;
 use crate::settings::Settings;
 use crate::transfer::SHARED_LENGTH;
 
-use super::cases::{list_memories, Cases, LARGEST};
+use super::super::sections::Cases;
+use super::cases::{list_memories, LARGEST};
 
 const SEED: u64 = 500;
 /// Random lists, and their calls.

@@ -19,8 +19,10 @@ use crate::settings::{Settings, LENGTH_LIMIT};
 use crate::transfer::{Running, Transfer, SHARED_LENGTH};
 use crate::vectors::{fresh as settings_cases, sound, source};
 
+use super::super::case::{Case, Memories};
+use super::super::sections::{number, Cases};
 use super::calls;
-use super::case::{Case, Memories};
+use super::case::{of_calls, of_requests};
 
 const SEED: u64 = 400;
 /// Accesses of a planned list, and of a random one.
@@ -31,8 +33,7 @@ const RANDOM_SOURCES: usize = 60;
 
 pub const LARGEST: Settings = Settings::new(0xFFFF_0000, 65_536, 32_768, 49_152);
 
-/// Where the memories' numbers of each section begin. A section that is not named here begins at
-/// a number of its name.
+/// Where the memories' numbers of the first sections begin.
 const FIRSTS: [(&str, u32); 23] = [
     ("records: settings", 0),
     ("records: fifos", 35),
@@ -58,36 +59,11 @@ const FIRSTS: [(&str, u32); 23] = [
     ("sources: two at once", 627),
     ("sources: random", 637),
 ];
-/// A number of a name is below this.
-const NUMBER_LIMIT: u64 = 1_000_000;
 /// The lists' memories are numbered by the lists' names.
 const LIST_NUMBERS: Seeds = Seeds::new(325, &NUMBERED);
 const LIST_SEEDS: Seeds = Seeds::new(SEED, &NUMBERED);
 
-/// The cases, in sections. Further cases go to the end of a section, or into a new section: the
-/// memories and draws of the others stay.
-#[derive(Default)]
-pub struct Cases {
-    cases: Vec<Case>,
-    /// Of the next case's memories.
-    number: u32,
-}
-
 impl Cases {
-    pub fn section(&mut self, name: &str) {
-        let known = FIRSTS.iter().find(|(known, _)| *known == name);
-        self.number = match known {
-            Some((_, first)) => *first,
-            None => number(&Seeds::new(0, &[]), name),
-        };
-    }
-
-    pub fn memories(&mut self, shared_length: u32, window_length: u32) -> Memories {
-        let number = self.number;
-        self.number += 1;
-        Memories::new(number, shared_length, window_length)
-    }
-
     /// Direct accesses. A record that is given has any DMA registers, drawn by themselves.
     fn add_accesses(&mut self, first: First, memories: &Memories, accesses: &[Access]) {
         let first = match first {
@@ -102,17 +78,12 @@ impl Cases {
     }
 
     pub fn add_calls(&mut self, first: &First, memories: &Memories, calls: &[Call]) {
-        self.cases.push(Case::of_calls(first, memories, calls));
+        self.cases.push(of_calls(first, memories, calls));
     }
 
     fn add_requests(&mut self, settings: Settings, memories: &Memories, transfers: &[Transfer]) {
-        self.cases
-            .push(Case::of_requests(settings, memories, transfers));
+        self.cases.push(of_requests(settings, memories, transfers));
     }
-}
-
-fn number(seeds: &Seeds, name: &str) -> u32 {
-    (seeds.of(name) % NUMBER_LIMIT) as u32
 }
 
 pub fn list_memories(name: &str, shared_length: u32, window_length: u32) -> Memories {
@@ -120,7 +91,7 @@ pub fn list_memories(name: &str, shared_length: u32, window_length: u32) -> Memo
 }
 
 pub fn cases() -> Vec<Case> {
-    let mut cases = Cases::default();
+    let mut cases = Cases::new(&FIRSTS);
     records(&mut cases);
     lengths(&mut cases);
     settings(&mut cases);

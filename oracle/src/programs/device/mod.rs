@@ -34,23 +34,16 @@ mod calls;
 mod case;
 mod cases;
 
-use super::Program;
-use case::Case;
+use super::{case as shared, Program};
+
+pub use cases::LARGEST;
 
 /// What the input has room for.
 const INPUT_LIMIT: usize = 1_000_000;
 
 pub fn program() -> Program {
-    let mut stdin = Vec::new();
-    let mut stdout = String::new();
-    for Case { numbers, text } in cases::cases() {
-        stdin.extend(numbers.into_iter().flat_map(u32::to_le_bytes));
-        stdout += &text;
-    }
-    assert!(stdin.len() < INPUT_LIMIT, "{}", stdin.len());
-    Program {
-        name: "device_test",
-        stdin,
-        stdout: stdout.into_bytes(),
-    }
+    let program = shared::program("device_test", cases::cases());
+    let size = program.stdin.len();
+    assert!(size < INPUT_LIMIT, "{size}");
+    program
 }

@@ -1,5 +1,6 @@
 //! The planned part of each list of calls.
 
+pub mod bursts;
 pub mod mixed;
 pub mod refusals;
 pub mod registers;
