@@ -92,6 +92,23 @@ unfoldable pub numbersOf : List Entry → List ℕ
 numbersOf [] = []
 numbersOf (e ∷ es) = entryNumbers e ++ numbersOf es
 
+-- what stands at a place of the list
+pub data Found : Type 0 where
+  found : Entry → Found
+  nothing : Found
+
+abbrev pub entryOf : (case at value : ℕ) → Found
+entryOf case at value =
+    if eqb case 1
+    then found (kept at value false)
+    else (if eqb case 2 then found (kept at value true) else (if eqb case 3 then found (skipped at value) else nothing))
+
+unfoldable pub entryAt : (list : List ℕ) → (place : ℕ) → Found
+entryAt list place =
+    if ltb place (length list / 3)
+    then entryOf (getD list (3 * place) 0) (getD list (3 * place + 1) 0) (getD list (3 * place + 2) 0)
+    else nothing
+
 -- the number of entries, or a refusal
 pub data Listing : Type 0 where
   count : ℕ → Listing

@@ -13,6 +13,7 @@ use Rattle.model.specs.Lanes.{writeDword}
 use Rattle.model.specs.Accesses.{Access}
 use Rattle.model.specs.Trace.{recordBytes, nextNumber, traceChecks, next, writeRecord}
 use Rattle.model.specs.TraceLaws.{write-stores}
+use Rattle.model.specs.Rescue.{stands}
 use Rattle.trace.specs.Bridge.{recordNumber, damage, headBytes}
 
 abbrev given : (short unmarked unexpected nonzero : Bool) → ℕ
@@ -30,6 +31,18 @@ pub numbered : (bytes : List ℕ) (expected d : ℕ) → d ≡ damage bytes
 numbered bytes expected d h =
     rw (h, eq-eqb (recordNumber bytes) (recordNumber bytes) refl)
     (between (ltb (length bytes) 20) (not (eqb (getD bytes 0 0) 0x42 && eqb (getD bytes 1 0) 0x50)) (not (eqb (recordNumber bytes) expected)) (not (eqb (getD bytes 7 0) 0)))
+
+-- a record stands where nothing is damaged
+none : (s m m′ z : Bool) → eqb (given s (not (m && m′)) false (not z)) 0 ≡ (not s && m && m′ && z)
+none true m m′ z = refl
+none false false m′ z = refl
+none false true false z = refl
+none false true true true = refl
+none false true true false = refl
+
+pub undamaged : (bytes : List ℕ) → eqb (damage bytes) 0 ≡ stands bytes
+undamaged bytes =
+    rw (eq-eqb (recordNumber bytes) (recordNumber bytes) refl) (none (ltb (length bytes) 20) (eqb (getD bytes 0 0) 0x42) (eqb (getD bytes 1 0) 0x50) (eqb (getD bytes 7 0) 0))
 
 -- THE WRITER
 

@@ -1,0 +1,91 @@
+// Document 02, L14: the scan of a damaged trace: where the next record stands, where the scan stands, and the entries that it lists.
+ghost use mathlib.Core.Path.{_≡_};
+ghost use Prim.Native.Nat.{_+_, _<_, _≤_, _^_};
+ghost use lib.ListN.{length};
+ghost use Rattle.model.specs.Trace.{nextNumber};
+ghost use Rattle.model.specs.Rescue.{keptAt, skipped};
+ghost use Rattle.scan.specs.Bridge.{entryAs, placeAs, Ahead};
+
+// "Kept records and skipped ranges", each with its place; a kept record with its number, a range with its length.
+pub enum Entry {
+    Kept(u64, u64),
+    Doubtful(u64, u64),
+    Skipped(u64, u64),
+}
+
+// The first place from `at` on, and before `to`, where a record stands; `to` where there is none.
+pub fn next_record(bytes: &[u8], at: usize, to: usize) -> usize
+    requires { ⌜ (at ≤ to) × (to ≤ length (now bytes)) ⌝ }
+    ensures { λ r. ⌜ Ahead (now (bytes .entry)) at to r ⌝ }
+{
+    let mut place = at;
+    while place < to {
+        if trace::stands(&bytes[place..]) {
+            return place;
+        }
+        place += 1;
+    }
+    place
+}
+
+// Where a scan stands: `run` bytes behind `from`, where the last kept record ended; and the number that is expected next.
+pub struct Place {
+    pub from: u64,
+    pub run: u64,
+    pub expected: u16,
+}
+
+impl Place {
+    pub fn start() -> Place
+        ensures { λ r. ⌜ r ≡ record { from = 0; run = 0; expected = 0 } ⌝ }
+    {
+        Place {
+            from: 0,
+            run: 0,
+            expected: 0,
+        }
+    }
+
+    // Behind bytes that are skipped.
+    pub fn skip(self, bytes: usize) -> Place
+        requires { ⌜ self .run + bytes < 2 ^ 64 ⌝ }
+        ensures { λ r. ⌜ r ≡ record { from = self .from; run = self .run + bytes; expected = self .expected } ⌝ }
+    {
+        Place {
+            from: self.from,
+            run: self.run + bytes as u64,
+            expected: self.expected,
+        }
+    }
+
+    // Behind a record that is kept.
+    pub fn keep(self, number: u16) -> Place
+        requires { ⌜ self .from + self .run + 20 < 2 ^ 64 ⌝ }
+        ensures { λ r. ⌜ r ≡ record { from = self .from + self .run + 20; run = 0; expected = nextNumber number } ⌝ }
+    {
+        Place {
+            from: self.from + self.run + 20,
+            run: 0,
+            expected: trace::next_number(number),
+        }
+    }
+
+    // The bytes skipped since the last kept record.
+    pub fn range(self) -> Entry
+        ensures { λ r. ⌜ entryAs r ≡ skipped (self .from) (self .run) ⌝ }
+    {
+        Entry::Skipped(self.from, self.run)
+    }
+
+    // The record that stands here.
+    pub fn kept(self, number: u16) -> Entry
+        requires { ⌜ self .from + self .run < 2 ^ 64 ⌝ }
+        ensures { λ r. ⌜ entryAs r ≡ keptAt (placeAs self) number ⌝ }
+    {
+        let at = self.from + self.run;
+        if number == self.expected {
+            return Entry::Kept(at, number as u64);
+        }
+        Entry::Doubtful(at, number as u64)
+    }
+}
