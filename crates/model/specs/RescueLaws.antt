@@ -1,6 +1,6 @@
 -- Laws of the rescue: the scan walks the bytes record by record and byte by byte, and the entries from any place on follow that walk.
 use mathlib.Core.Path.{_≡_, refl, sym, ap, _∙_}
-use mathlib.Core.Bool.{Bool, true, false, not, _&&_, Bool·not-not}
+use mathlib.Core.Bool.{Bool, true, false, not, _&&_, _||_, Bool·not-not, or-true}
 use mathlib.Core.List.{List, [], _∷_, _++_, append-assoc, append-nil}
 use Prim.Native.Nat.{ℕ, zero, suc, _+_, _-_, _*_, _/_, _≤_, _<_}
 use native.Mathlib.Nat.{add-zero, zero-add}
@@ -8,9 +8,9 @@ use native.Mathlib.Omega.{arith}
 use lib.ListN.{length, getD, take, drop, length-append, length-drop}
 use lib.Seq.{drop-nil, drop-drop, length-take-le}
 use lib.Dec.{eqb, ltb}
-use borrow.Author.Tests.{lt-ltb, le-ltb, ltb-true, ltb-false, eq-eqb, ne-eqb, eqb-true, eqb-false, not-true}
+use borrow.Author.Tests.{lt-ltb, le-ltb, ltb-true, ltb-false, eq-eqb, ne-eqb, eqb-true, eqb-false}
 use Rattle.model.specs.Choice.{if_then_else_, every}
-use Rattle.model.specs.TestLaws.{All, and-left, and-right, if-case, no-both}
+use Rattle.model.specs.TestLaws.{All, no-both, and-left, and-right, and-true, if-case}
 use Rattle.model.specs.LaneLaws.{Bytes, bytes-drop}
 use Rattle.model.specs.Accesses.{Access, Fits}
 use Rattle.model.specs.Trace.{recordBytes, numberAfter, numberAt, accessAt, recorded, readRecord}
@@ -20,7 +20,7 @@ use Rattle.model.specs.Convert.{traceForm, written}
 use Rattle.model.specs.ConvertLaws.{FromShorter, by-length, trace-and-back, trace-turned, as-replayed}
 use Rattle.model.specs.Rescue.{stands, Move, keep, skip, scan, moves, Entry, kept, skipped, Place, beginning, range, keptAt, moved, listed, after, entries, entryNumbers, numbersOf, count, refused, rescue}
 use Rattle.model.specs.RescueText.{Tally, none, tallied, tally, accessesOf, rescuedTrace}
-use Rattle.model.specs.ScanLaws.{stands-whole, kept-first, scan-short, scan-kept, scan-skipped}
+use Rattle.model.specs.ScanLaws.{stands-whole, kept-first, scan-short, scan-kept, scan-skipped, sizes}
 
 -- THE WALK
 
@@ -152,7 +152,8 @@ abbrev pub Clear : (t : List ℕ) → (at size : ℕ) → Type 0
 Clear t at size = (i : ℕ) → i < size → stands (drop (at + i) t) ≡ false
 
 -- what holds of every record that stands, and of every range where none stands, holds of all entries
-module _ (t : List ℕ) (P : Entry → Type 0) (record-has : (at : ℕ) (bytes : List ℕ) (doubtful : Bool) → bytes ≡ drop at t → stands bytes ≡ true → P (kept at (numberAt 2 2 bytes) doubtful))
+module _ (t : List ℕ) (P : Entry → Type 0)
+    (record-has : (at : ℕ) (bytes : List ℕ) (doubtful : Bool) → bytes ≡ drop at t → stands bytes ≡ true → P (kept at (numberAt 2 2 bytes) doubtful))
     (range-has : (at size : ℕ) → Clear t at size → P (skipped at size)) where
   range-all : (p : Place) (es : List Entry) → Clear t (p .from) (p .run) → All P es → All P (range p ++ es)
   range-all p es c a = range-by (λ r. All P (r ++ es)) p (λ e. a) (λ l. (range-has (p .from) (p .run) c, a))
@@ -317,7 +318,8 @@ pub record Undamaged (k : ℕ) (bytes : List ℕ) : Type 0 where
 unsure : (p : Place) {bytes : List ℕ} → Walk bytes → 1 ≤ p .run → every sure (entriesFrom p bytes) ≡ false
 unsure p done h = rw (from-none p) (range-by (λ r. every sure (r ++ []) ≡ false) p (λ e. absurd (omega arith)) (λ l. refl))
 unsure p (keeps {bytes} s w) h =
-    rw (from-kept p bytes s) (range-by (λ r. every sure (r ++ (keptAt p (numberAt 2 2 bytes) ∷ entriesFrom (moved p (kept-first bytes)) (drop 20 bytes))) ≡ false) p (λ e. absurd (omega arith)) (λ l. refl))
+    let es = keptAt p (numberAt 2 2 bytes) ∷ entriesFrom (moved p (kept-first bytes)) (drop 20 bytes) in
+    rw (from-kept p bytes s) (range-by (λ r. every sure (r ++ es) ≡ false) p (λ e. absurd (omega arith)) (λ l. refl))
 unsure p (skips {b} {bytes} s w) h = rw (from-skipped p b bytes s) (unsure (moved p skip) w (omega arith))
 
 sure-from : (k : ℕ) {bytes : List ℕ} → Walk bytes → Bytes bytes → every sure (entriesFrom (behindRecords k) bytes) ≡ true → Undamaged k bytes
@@ -364,7 +366,52 @@ pub data StandsAt : (bytes : List ℕ) → (b : ℕ) → Type 0 where
   after-record : {bytes : List ℕ} {b : ℕ} → stands bytes ≡ true → StandsAt (drop 20 bytes) b → StandsAt bytes (20 + b)
   after-byte : {byte : ℕ} {bytes : List ℕ} {b : ℕ} → stands (byte ∷ bytes) ≡ false → StandsAt bytes b → StandsAt (byte ∷ bytes) (1 + b)
 
--- what entries say of the bytes from `b` on: a range that `b` stands in is cut there
+-- so it does exactly where its first moves pass `b` bytes
+pub record Passes (bytes : List ℕ) (b : ℕ) : Type 0 where
+  pub first : List Move
+  pub rest : List Move
+  pub is : moves bytes ≡ first ++ rest
+  pub passed : sizes first ≡ b
+
+pub stands-passes : {bytes : List ℕ} {b : ℕ} → StandsAt bytes b → Passes bytes b
+unfolding sizes
+stands-passes (at-start {bytes}) = record { first = []; rest = moves bytes; is = refl; passed = refl }
+stands-passes (after-record {bytes} s w) =
+    let i = stands-passes w in
+    record {
+      first = kept-first bytes ∷ i .first;
+      rest = i .rest;
+      is = scan-kept 1 bytes (omega (arith, stands-whole bytes s)) s ∙ ap (kept-first bytes ∷_) (i .is);
+      passed = ap (20 +_) (i .passed);
+    }
+stands-passes (after-byte {byte} {bytes} s w) =
+    let i = stands-passes w in
+    record {
+      first = skip ∷ i .first;
+      rest = i .rest;
+      is = scan-skipped 1 (byte ∷ bytes) (omega arith) (omega arith) s ∙ ap (skip ∷_) (i .is);
+      passed = ap (1 +_) (i .passed);
+    }
+
+passes-stands-by : {bytes : List ℕ} → Walk bytes → (first rest : List Move) → moves bytes ≡ first ++ rest → StandsAt bytes (sizes first)
+unfolding sizes
+passes-stands-by w [] rest e = at-start
+passes-stands-by done (m ∷ first) rest e =
+    let g : [] ≡ m ∷ (first ++ rest) = sym (scan-short 1 [] (omega arith)) ∙ e in
+    absurd (let z : _≡_ {A = ℕ} 0 1 = cc in omega arith)
+passes-stands-by (keeps {bytes} s w) (m ∷ first) rest e =
+    let g : kept-first bytes ∷ moves (drop 20 bytes) ≡ m ∷ (first ++ rest) = sym (scan-kept 1 bytes (omega (arith, stands-whole bytes s)) s) ∙ e in
+    let is : m ≡ kept-first bytes = cc in
+    rw is (after-record s (passes-stands-by w first rest (cc)))
+passes-stands-by (skips {b} {bytes} s w) (m ∷ first) rest e =
+    let g : skip ∷ moves bytes ≡ m ∷ (first ++ rest) = sym (scan-skipped 1 (b ∷ bytes) (omega arith) (omega arith) s) ∙ e in
+    let is : m ≡ skip = cc in
+    rw is (after-byte s (passes-stands-by w first rest (cc)))
+
+pub passes-stands : {bytes : List ℕ} {b : ℕ} → Passes bytes b → StandsAt bytes b
+passes-stands {bytes} p = rw (p .passed) at (passes-stands-by (walk bytes) (p .first) (p .rest) (p .is))
+
+-- what entries say of the bytes from `b` on: a range that `b` stands in is cut there; it stands in no kept record (`stands-outside`)
 abbrev pub partBehind : (b : ℕ) → Entry → List Entry
 partBehind b (kept at number doubtful) = if ltb at b then [] else kept at number doubtful ∷ []
 partBehind b (skipped at size) =
@@ -507,6 +554,57 @@ same-records-behind qs t′ d k h e l w =
     let records = undamaged-from k (drop k qs) (all-drop k qs h) in
     rw (other .is, same, rest, ← length-drop k qs, ← records)
     (alike-from (numberAfter k) (standingAt (20 * k) (other .expected)) (walk (written traceForm k (drop k qs))))
+
+-- That is what the undamaged scan lists from there on.
+records-cover : (k n : ℕ) → Covers (20 * k) (keptRecords k n) (20 * (k + n))
+unfolding keptRecords
+records-cover k zero = rw add-zero ended
+records-cover k (suc n) =
+    let z : 20 * (k + 1) ≡ 20 * k + 20 = omega arith in
+    let shift : k + suc n ≡ k + 1 + n = omega arith in
+    rw shift (next {e = kept (20 * k) (numberAfter k) false} refl (omega arith) (rw z at (records-cover (k + 1) n)))
+
+records-behind : (k i n : ℕ) → behind (20 * (k + i)) (keptRecords k n) ≡ keptRecords (k + i) (n - i)
+unfolding behind keptRecords
+records-behind k zero n =
+    let same : n - 0 ≡ n = omega arith in
+    rw (add-zero, same) (behind-all (20 * k) (records-cover k n) (omega arith))
+records-behind k (suc i) zero = let none : 0 - suc i ≡ 0 = omega arith in rw none
+records-behind k (suc i) (suc n) =
+    let shift : k + suc i ≡ k + 1 + i = omega arith in
+    let fewer : suc n - suc i ≡ n - i = omega arith in
+    rw (lt-ltb (20 * k) (20 * (k + suc i)) (omega arith), shift, fewer) (records-behind (k + 1) i n)
+
+pub undamaged-behind : (qs : List Access) (k : ℕ) → All Fits qs → behind (20 * k) (entries (written traceForm 0 qs)) ≡ keptRecords k (length qs - k)
+undamaged-behind qs k h = rw (undamaged-kept qs h) (rw (zero-add k) at (records-behind 0 k (length qs)))
+
+-- Where it does not stand: inside a record that it keeps.
+abbrev pub outside : (b : ℕ) → Entry → Bool
+outside b (kept at number doubtful) = not (ltb at b) || not (ltb b (at + 20))
+outside b (skipped at size) = true
+
+record-outside : (b : ℕ) (p : Place) (number : ℕ) (es : List Entry) → outside b (keptAt p number) ≡ true → every (outside b) es ≡ true →
+    every (outside b) (range p ++ (keptAt p number ∷ es)) ≡ true
+record-outside b p number es o h = range-by (λ r. every (outside b) (r ++ (keptAt p number ∷ es)) ≡ true) p (λ e. and-true o h) (λ l. and-true o h)
+
+later-outside : (b : ℕ) (p : Place) {bytes : List ℕ} → Walk bytes → b ≤ p .from + p .run → every (outside b) (entriesFrom p bytes) ≡ true
+later-outside b p done h = rw (from-none p) (range-by (λ r. every (outside b) (r ++ []) ≡ true) p (λ e. refl) (λ l. refl))
+later-outside b p (keeps {bytes} s w) h =
+    let rest = later-outside b (moved p (kept-first bytes)) w (omega arith) in
+    rw (from-kept p bytes s) (record-outside b p (numberAt 2 2 bytes) _ (rw (le-ltb (p .from + p .run) b h)) rest)
+later-outside b p (skips {b = c} {bytes} s w) h = rw (from-skipped p c bytes s) (later-outside b (moved p skip) w (omega arith))
+
+come-outside : (at : ℕ) (p : Place) {bytes : List ℕ} {b : ℕ} → StandsAt bytes b → p .from + p .run + b ≡ at → every (outside at) (entriesFrom p bytes) ≡ true
+come-outside at p (at-start {bytes}) e = later-outside at p (walk bytes) (omega arith)
+come-outside at p (after-record {bytes} {b} s w) e =
+    let here = p .from + p .run in
+    let rest = come-outside at (moved p (kept-first bytes)) w (omega arith) in
+    rw (from-kept p bytes s) (record-outside at p (numberAt 2 2 bytes) _ (rw (le-ltb at (here + 20) (omega arith)) (or-true (not (ltb here at)))) rest)
+come-outside at p (after-byte {byte} {bytes} {b} s w) e = rw (from-skipped p byte bytes s) (come-outside at (moved p skip) w (omega arith))
+
+pub stands-outside : (t : List ℕ) (b : ℕ) → StandsAt t b → every (outside b) (entries t) ≡ true
+unfolding entries entriesFrom
+stands-outside t b w = come-outside b beginning w (omega arith)
 
 -- WHAT THE PROGRAM WRITES
 
