@@ -20,7 +20,7 @@ use Rattle.model.specs.Convert.{traceForm, written}
 use Rattle.model.specs.ConvertLaws.{FromShorter, by-length, trace-and-back, trace-turned, as-replayed}
 use Rattle.model.specs.Rescue.{stands, Move, keep, skip, scan, moves, Entry, kept, skipped, Place, beginning, range, keptAt, moved, listed, after, entries, entryNumbers, numbersOf, count, refused, rescue}
 use Rattle.model.specs.RescueText.{Tally, none, tallied, tally, accessesOf, rescuedTrace}
-use Rattle.model.specs.ScanLaws.{stands-whole, kept-first, scan-short, scan-kept, scan-skipped, sizes}
+use Rattle.model.specs.ScanLaws.{stands-whole, kept-first, scan-short, scan-kept, scan-skipped, sizes, entriesFrom}
 
 -- THE WALK
 
@@ -40,10 +40,6 @@ walk = by-length Walk step
         by : (there : Bool) → stands (b ∷ later) ≡ there → Walk (b ∷ later)
         by true e = keeps e (i (drop 20 (b ∷ later)) (omega (arith, length-drop 20 (b ∷ later))))
         by false e = skips e (i later (omega arith))
-
--- the entries of bytes that a scan comes to at a place
-entriesFrom : Place → (bytes : List ℕ) → List Entry
-entriesFrom p bytes = listed p (moves bytes) ++ range (after p (moves bytes))
 
 from-none : (p : Place) → entriesFrom p [] ≡ range p ++ []
 unfolding entriesFrom listed after scan

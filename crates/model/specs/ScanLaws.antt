@@ -14,7 +14,7 @@ use Rattle.model.specs.Accesses.{Access}
 use Rattle.model.specs.Trace.{numberAt, accessAt}
 use Rattle.model.specs.TraceLaws.{number-first, access-first}
 use Rattle.model.specs.ConvertLaws.{FromShorter, by-length}
-use Rattle.model.specs.Rescue.{stands, Move, keep, skip, scan, Entry, Place, range, listedBy, moved, listed, after}
+use Rattle.model.specs.Rescue.{stands, Move, keep, skip, scan, moves, Entry, Place, range, listedBy, moved, listed, after}
 
 -- WHAT STANDS
 
@@ -90,11 +90,12 @@ after-sizes p (keep n q ∷ ms) = omega (arith, after-sizes (moved p (keep n q))
 -- ENTRIES FROM A PLACE ON
 
 -- what a scan from a place lists of the bytes there, to their end
-abbrev pub entriesFrom : Place → (bytes : List ℕ) → List Entry
-entriesFrom p bytes = listed p (scan 1 0 bytes) ++ range (after p (scan 1 0 bytes))
+unfoldable pub entriesFrom : Place → (bytes : List ℕ) → List Entry
+entriesFrom p bytes = listed p (moves bytes) ++ range (after p (moves bytes))
 
 -- some moves, and then the rest
 pub entries-then : (p : Place) (bytes rest : List ℕ) (ms : List Move) → scan 1 0 bytes ≡ ms ++ scan 1 0 rest → entriesFrom p bytes ≡ listed p ms ++ entriesFrom (after p ms) rest
+unfolding entriesFrom
 entries-then p bytes rest ms e = rw (e, listed-append, after-append, append-assoc)
 
 -- IN CHUNKS

@@ -14,6 +14,7 @@ use Rattle.model.specs.Choice.{if_then_else_}
 use Rattle.model.specs.TestLaws.{or-left, or-right}
 use Rattle.model.specs.Trace.{nextNumber, numberAt}
 use Rattle.model.specs.Rescue.{Entry, kept, skipped, Place, range, keptAt, moved, listed, after, scan, entryNumbers, numbersOf, entries, count, refused, rescue}
+use Rattle.model.specs.RescueLaws.{entry-three, numbers-length}
 use Rattle.model.specs.ScanLaws.{kept-first, entriesFrom, entries-then}
 use Rattle.scan.specs.Bridge.{placeAs, Ahead}
 use Rattle.scan.specs.Laws.{skips, behind, skips-listed, skips-after, upTo, record-listed, record-after, record-ahead}
@@ -22,16 +23,6 @@ use Rattle.rescue.specs.declared.Standing.{Standing}
 use Rattle.rescue.specs.Bridge.{fitting, Holds, Half}
 
 -- NUMBERS
-
-three : (e : Entry) → length (entryNumbers e) ≡ 3
-three (kept at number false) = refl
-three (kept at number true) = refl
-three (skipped at size) = refl
-
-pub numbers-length : (es : List Entry) → length (numbersOf es) ≡ 3 * length es
-unfolding numbersOf
-numbers-length [] = refl
-numbers-length (e ∷ es) = omega (arith, length-append (entryNumbers e) (numbersOf es), three e, numbers-length es)
 
 numbers-append : (es fs : List Entry) → numbersOf (es ++ fs) ≡ numbersOf es ++ numbersOf fs
 unfolding numbersOf
@@ -98,13 +89,13 @@ module _ {before now : List ℕ} {es : List Entry} {f : Filled} (h : Holds befor
       let more = length-append es (e ∷ []) in
       let all′ = take-all places (es ++ (e ∷ [])) (omega arith) in
       let is : now ≡ numbersOf es ++ drop (3 * length es) before = rw all at (h .list) in
-      let stored = behind-others (numbersOf es) (drop (3 * length es) before) (entryNumbers e) (3 * length es) (numbers-length es) (omega (arith, three e, ap length is)) in
+      let stored = behind-others (numbersOf es) (drop (3 * length es) before) (entryNumbers e) (3 * length es) (numbers-length es) (omega (arith, entry-three e, ap length is)) in
       let next : 3 * length es + 3 ≡ 3 * length (es ++ (e ∷ [])) = omega arith in
       record {
         count = rw all′ (omega arith);
         over = sym (le-ltb places (length (es ++ (e ∷ []))) (omega arith));
         list =
-            rw (n, is) (stored ∙ rw (three e, drop-drop 3 (3 * length es) before, next, all′, numbers-append es (e ∷ []), append-nil (entryNumbers e), append-assoc));
+            rw (n, is) (stored ∙ rw (entry-three e, drop-drop 3 (3 * length es) before, next, all′, numbers-append es (e ∷ []), append-nil (entryNumbers e), append-assoc));
       }
 
 -- A TRACE HALF SCANNED
@@ -154,7 +145,7 @@ module _ {trace before now : List ℕ} {s : Standing} {next : ℕ} (a : Ahead tr
 
 -- nothing is scanned yet
 pub all-ahead : (trace list : List ℕ) → Half trace list (record { at = 0; place = record { from = 0; run = 0; expected = 0 }; filled = record { count = 0; over = false } }) list
-unfolding entries
+unfolding entries entriesFrom
 all-ahead trace list = record { es = []; split = refl; holds = none-held list }
 
 -- AT THE END
@@ -198,7 +189,7 @@ why-ended at n false l h = inl (omega (arith, ltb-false at n (by (ltb at n) h)))
 pub all-listed : {trace before now after : List ℕ} {s : Standing} {f : Filled} → Half trace before s now → Adds (range (placeAs (s .place))) (s .filled) now f after →
     (s .at ≡ length trace) ⊎ (s .filled .over ≡ true) → (over : Bool) → f .over ≡ over →
     (if over then record { answer = refused 60; list = after } else record { answer = count (f .count); list = after }) ≡ rescue trace before
-unfolding scan listed after
+unfolding scan listed after entriesFrom
 all-listed {trace} {before} {after} {s} {f} h adds (inl e) =
     answered {now = after} {f = f} trace (rw (h .split, e, drop-length trace) (adds before (h .es) (h .holds)))
 all-listed {trace} {before} {after} {s} {f} h adds (inr o) =
