@@ -6,7 +6,7 @@ use Prim.Native.Nat.{ℕ, zero, suc, _+_, _-_, _*_, _/_, _≤_, _<_}
 use native.Mathlib.Nat.{add-zero, zero-add}
 use native.Mathlib.Omega.{arith}
 use lib.ListN.{length, getD, take, drop, length-append, length-drop}
-use lib.Seq.{drop-nil, drop-drop, length-take-le}
+use lib.Seq.{drop-nil, drop-drop, drop-append-seam, getD-drop, length-take-le}
 use lib.Dec.{eqb, ltb}
 use borrow.Author.Tests.{lt-ltb, le-ltb, ltb-true, ltb-false, eq-eqb, ne-eqb, eqb-true, eqb-false}
 use Rattle.model.specs.Choice.{if_then_else_, every}
@@ -14,11 +14,11 @@ use Rattle.model.specs.TestLaws.{All, no-both, and-left, and-right, and-
 use Rattle.model.specs.LaneLaws.{Bytes, bytes-drop}
 use Rattle.model.specs.Accesses.{Access, Fits}
 use Rattle.model.specs.Trace.{recordBytes, numberAfter, numberAt, accessAt, recorded, readRecord}
-use Rattle.model.specs.TraceLaws.{next-after, read-recorded, RecordStands, recorded-is, recorded-fits, recorded-bytes}
+use Rattle.model.specs.TraceLaws.{members, take-members, next-after, read-recorded, RecordStands, recorded-is, recorded-fits, recorded-bytes}
 use Rattle.model.specs.Replay.{replay, replayStart}
 use Rattle.model.specs.Convert.{traceForm, written}
 use Rattle.model.specs.ConvertLaws.{FromShorter, by-length, trace-and-back, trace-turned, as-replayed}
-use Rattle.model.specs.Rescue.{stands, Move, keep, skip, scan, moves, Entry, kept, skipped, Place, beginning, range, keptAt, moved, listed, after, entries, entryNumbers, numbersOf, count, refused, rescue}
+use Rattle.model.specs.Rescue.{stands, Move, keep, skip, scan, moves, Entry, kept, skipped, Place, beginning, range, keptAt, moved, listed, after, entries, entryNumbers, numbersOf, found, nothing, entryOf, entryAt, count, refused, rescue}
 use Rattle.model.specs.RescueText.{Tally, none, tallied, tally, accessesOf, rescuedTrace}
 use Rattle.model.specs.ScanLaws.{stands-whole, kept-first, scan-short, scan-kept, scan-skipped, sizes, entriesFrom}
 
@@ -247,6 +247,59 @@ rescue-length t list = by (ltb (length list / 3) (length (entries t))) refl
     by false e =
         let l = ltb-false (length list / 3) (length (entries t)) e in
         rw (rescue-fits t list l) (listed-length (entries t) list l)
+
+pub numbers-append : (es fs : List Entry) → numbersOf (es ++ fs) ≡ numbersOf es ++ numbersOf fs
+unfolding numbersOf
+numbers-append [] fs = refl
+numbers-append (e ∷ es) fs = rw (numbers-append es fs, append-assoc)
+
+-- AN ENTRY READ BACK
+
+-- by the three numbers that stand at its place
+at-place : (list : List ℕ) (place : ℕ) {case at value : ℕ} {rest : List ℕ} → drop (3 * place) list ≡ case ∷ at ∷ value ∷ rest → entryAt list place ≡ entryOf case at value
+unfolding entryAt
+at-place list place {case} {at} {value} e =
+    let n = 3 * place in
+    let long : place < length list / 3 = omega (arith, length-drop n list, ap length e) in
+    let first : getD list n 0 ≡ case = ap (λ (k : ℕ). getD list k 0) (sym (add-zero n)) ∙ sym (getD-drop n list 0 0) ∙ ap (λ (l : List ℕ). getD l 0 0) e in
+    let second : getD list (n + 1) 0 ≡ at = sym (getD-drop n list 1 0) ∙ ap (λ (l : List ℕ). getD l 1 0) e in
+    let third : getD list (n + 2) 0 ≡ value = sym (getD-drop n list 2 0) ∙ ap (λ (l : List ℕ). getD l 2 0) e in
+    rw (lt-ltb place (length list / 3) long, first, second, third)
+
+-- what was written is read back, ..
+pub entry-back : (before behind : List Entry) (e : Entry) (rest : List ℕ) → entryAt (numbersOf (before ++ (e ∷ behind)) ++ rest) (length before) ≡ found e
+unfolding numbersOf
+entry-back before behind e rest = by e (rw (numbers-append before (e ∷ behind), append-assoc, ← numbers-length before) (drop-append-seam (numbersOf before) (numbersOf (e ∷ behind) ++ rest)))
+  where
+    list : (e : Entry) → List ℕ
+    list e = numbersOf (before ++ (e ∷ behind)) ++ rest
+
+    by : (e : Entry) → drop (3 * length before) (list e) ≡ numbersOf (e ∷ behind) ++ rest → entryAt (list e) (length before) ≡ found e
+    by (kept at number false) h = at-place _ (length before) h
+    by (kept at number true) h = at-place _ (length before) h
+    by (skipped at size) h = at-place _ (length before) h
+
+-- .. and what is read was written so
+pub entry-written : (list : List ℕ) (place : ℕ) (e : Entry) → entryAt list place ≡ found e → take 3 (drop (3 * place) list) ≡ entryNumbers e
+unfolding entryAt members
+entry-written list place e h = by (ltb place (length list / 3)) refl h
+  where
+    case : (c at value : ℕ) (one two three : Bool) → eqb c 1 ≡ one → eqb c 2 ≡ two → eqb c 3 ≡ three →
+        (if one then found (kept at value false) else (if two then found (kept at value true) else (if three then found (skipped at value) else nothing))) ≡ found e →
+        c ∷ at ∷ value ∷ [] ≡ entryNumbers e
+    case c at value true two three i j k h = let same : kept at value false ≡ e = cc in rw (← same, eqb-true c 1 i)
+    case c at value false true three i j k h = let same : kept at value true ≡ e = cc in rw (← same, eqb-true c 2 j)
+    case c at value false false true i j k h = let same : skipped at value ≡ e = cc in rw (← same, eqb-true c 3 k)
+    case c at value false false false i j k h = absurd (let z : _≡_ {A = ℕ} 0 1 = cc in omega arith)
+
+    by : (there : Bool) → ltb place (length list / 3) ≡ there →
+        (if there then entryOf (getD list (3 * place) 0) (getD list (3 * place + 1) 0) (getD list (3 * place + 2) 0) else nothing) ≡ found e → take 3 (drop (3 * place) list) ≡ entryNumbers e
+    by false t h = absurd (let z : _≡_ {A = ℕ} 0 1 = cc in omega arith)
+    by true t h =
+        let l = ltb-true place (length list / 3) t in
+        let one : 3 * place + 1 ≡ suc (3 * place) = omega arith in
+        let two : 3 * place + 2 ≡ suc (suc (3 * place)) = omega arith in
+        take-members 3 (3 * place) list (omega arith) ∙ case (getD list (3 * place) 0) (getD list (suc (3 * place)) 0) (getD list (suc (suc (3 * place))) 0) _ _ _ refl refl refl (rw (one, two) at h)
 
 -- T14.5: "All entries kept and none doubtful iff t = trace(q0 .. qk) for some list (iff the replay ends without `log`)."
 

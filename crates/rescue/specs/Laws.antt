@@ -14,20 +14,13 @@ use Rattle.model.specs.Choice.{if_then_else_}
 use Rattle.model.specs.TestLaws.{or-left, or-right}
 use Rattle.model.specs.Trace.{nextNumber, numberAt}
 use Rattle.model.specs.Rescue.{Entry, kept, skipped, Place, range, keptAt, moved, listed, after, scan, entryNumbers, numbersOf, entries, count, refused, rescue}
-use Rattle.model.specs.RescueLaws.{entry-three, numbers-length}
+use Rattle.model.specs.RescueLaws.{entry-three, numbers-length, numbers-append}
 use Rattle.model.specs.ScanLaws.{kept-first, entriesFrom, entries-then}
 use Rattle.scan.specs.Bridge.{placeAs, Ahead}
 use Rattle.scan.specs.Laws.{skips, behind, skips-listed, skips-after, upTo, record-listed, record-after, record-ahead}
 use Rattle.rescue.specs.declared.Filled.{Filled}
 use Rattle.rescue.specs.declared.Standing.{Standing}
 use Rattle.rescue.specs.Bridge.{fitting, Holds, Half}
-
--- NUMBERS
-
-numbers-append : (es fs : List Entry) → numbersOf (es ++ fs) ≡ numbersOf es ++ numbersOf fs
-unfolding numbersOf
-numbers-append [] fs = refl
-numbers-append (e ∷ es) fs = rw (numbers-append es fs, append-assoc)
 
 -- AN ENTRY MORE
 
