@@ -23,7 +23,7 @@ entries1 =
     ∷ []
 
 agrees-entries1 : EntriesAgree entries1
-unfolding scan listed after entries
+unfolding entries1 scan listed after entries
 agrees-entries1 = refl
 
 entries2 : List EntriesCase
@@ -43,7 +43,7 @@ entries2 =
     ∷ []
 
 agrees-entries2 : EntriesAgree entries2
-unfolding scan listed after entries
+unfolding entries2 scan listed after entries
 agrees-entries2 = refl
 
 -- a trace and a lent list; the answer, and the list afterwards
@@ -64,7 +64,7 @@ lists1 =
     ∷ []
 
 agrees-lists1 : ListsAgree lists1
-unfolding scan listed after entries numbersOf rescue
+unfolding lists1 scan listed after entries numbersOf rescue
 agrees-lists1 = refl
 
 lists2 : List ListCase
@@ -76,5 +76,5 @@ lists2 =
     ∷ []
 
 agrees-lists2 : ListsAgree lists2
-unfolding scan listed after entries numbersOf rescue
+unfolding lists2 scan listed after entries numbersOf rescue
 agrees-lists2 = refl

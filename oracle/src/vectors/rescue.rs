@@ -146,7 +146,7 @@ fn portions(name: &str, case: &str, agree: &str, unfolded: &str, cases: &[String
                  {name}{number} =\n\
                  {entries}\n\
                  agrees-{name}{number} : {agree} {name}{number}\n\
-                 unfolding {unfolded}\n\
+                 unfolding {name}{number} {unfolded}\n\
                  agrees-{name}{number} = refl\n"
             )
         })
