@@ -8,7 +8,7 @@ use Rattle.model.specs.Convert.{traceForm, written}
 use Rattle.model.specs.Rescue as model
 use Rattle.model.specs.Rescue.{Move, scan, range, keptAt, listed, after}
 use Rattle.model.specs.RescueText as told
-use Rattle.model.specs.RescueText.{entryText, entryLines, accessesOf}
+use Rattle.model.specs.RescueText.{entryText, entryLines, totalText, rescueText, accessesOf, rescuedTrace}
 use Rattle.model.specs.ScanLaws.{sizes}
 use Rattle.decimal.specs.Bridge.{Written}
 use Rattle.scan.specs.declared.Place.{Place}
@@ -32,6 +32,16 @@ rangeText Records p = []
 abbrev pub keptText : Output → model.Place → (count : ℕ) → (bytes : List ℕ) → List ℕ
 keptText Entries p count bytes = entryText (keptAt p (numberAt 2 2 bytes))
 keptText Records p count bytes = recordBytes (numberAfter count) (accessAt bytes)
+
+-- what closes the output: the range that is still open, and the totals
+abbrev pub lastText : Output → model.Place → told.Tally → List ℕ
+lastText Entries p t = entryLines (range p) ++ totalText (told.tally t (range p))
+lastText Records p t = []
+
+-- all that is written of a trace
+abbrev pub wholeOf : Output → (trace : List ℕ) → List ℕ
+wholeOf Entries trace = rescueText trace
+wholeOf Records trace = rescuedTrace trace
 
 -- No more is counted than bytes were passed, so that the counts fit wherever the place does.
 pub record Small (p : Place) (t : Tally) : Type 0 where

@@ -12,8 +12,8 @@ use Rattle.model.specs.Choice.{if_then_else_}
 use Rattle.model.specs.Accesses.{Access}
 use Rattle.model.specs.Trace.{nextNumber, numberAt}
 use Rattle.model.specs.Convert.{Form, traceForm, written}
-use Rattle.model.specs.Rescue.{Move, keep, skip, scan, Entry, kept, skipped, Place, range, keptAt, moved, listed, after}
-use Rattle.model.specs.RescueText.{Tally, tallied, tally, entryText, entryLines, accessesOf}
+use Rattle.model.specs.Rescue.{Move, keep, skip, scan, Entry, kept, skipped, Place, range, keptAt, moved, listed, after, moves, beginning, entries}
+use Rattle.model.specs.RescueText.{Tally, none, tallied, tally, entryLines, accessesOf, rescueText, rescuedTrace}
 use Rattle.model.specs.ScanLaws.{scan-short, kept-first, sizes, listed-append, after-append}
 use Rattle.decimal.specs.Bridge.{Written}
 use Rattle.decimal.specs.Laws.{then, begun}
@@ -25,7 +25,7 @@ use Rattle.entry_text.specs.Bridge.{tallyAs}
 use Rattle.rescue_chunk.specs.declared.Output.{Output}
 use Rattle.rescue_chunk.specs.declared.Output.the-variants.{Entries, Records}
 use Rattle.rescue_chunk.specs.declared.Rescued.{Rescued}
-use Rattle.rescue_chunk.specs.Bridge.{outputOf, rangeText, keptText, Small, Wrote, Half, atFirst}
+use Rattle.rescue_chunk.specs.Bridge.{outputOf, rangeText, keptText, lastText, wholeOf, Small, Wrote, Half, atFirst}
 
 -- IN TWO PARTS
 
@@ -34,7 +34,7 @@ unfolding entryLines
 lines-append [] fs = refl
 lines-append (e ∷ es) fs = rw (lines-append es fs, append-assoc)
 
-tally-append : (t : Tally) (es fs : List Entry) → tally t (es ++ fs) ≡ tally (tally t es) fs
+pub tally-append : (t : Tally) (es fs : List Entry) → tally t (es ++ fs) ≡ tally (tally t es) fs
 unfolding tally
 tally-append t [] fs = refl
 tally-append t (e ∷ es) fs = tally-append (tallied t e) es fs
@@ -110,7 +110,7 @@ module _ (p : code.Place) (t u : count.Tally) (e : tallyAs u ≡ tally (tallyAs 
 
 -- ONE STANDING AFTER ANOTHER
 
-outputs-append : (output : Output) (p : Place) (t : Tally) (ms ns : List Move) →
+pub outputs-append : (output : Output) (p : Place) (t : Tally) (ms ns : List Move) →
     outputOf output p (t .kept) (ms ++ ns) ≡ outputOf output p (t .kept) ms ++ outputOf output (after p ms) (tally t (listed p ms) .kept) ns
 outputs-append Entries p t ms ns = rw (listed-append p ms ns, lines-append (listed p ms) (listed (after p ms) ns))
 outputs-append Records p t ms ns = rw (accesses-append ms ns, written-append traceForm (t .kept) (accessesOf ms) (accessesOf ns), count-kept t p ms)
@@ -211,3 +211,13 @@ none-done output least first input before e = record { done = []; split = rw e; 
     by : (output : Output) → Wrote output [] first before first before
     by Entries = record { text = record { place = omega arith; bytes = refl }; place = refl; tally = refl; at = omega arith }
     by Records = record { text = record { place = omega arith; bytes = refl }; place = refl; tally = refl; at = omega arith }
+
+-- A WHOLE TRACE: what its moves write, and what closes the output
+pub whole-is : (output : Output) (trace : List ℕ) →
+    wholeOf output trace ≡ outputOf output beginning 0 (moves trace) ++ lastText output (after beginning (moves trace)) (tally none (listed beginning (moves trace)))
+unfolding rescueText rescuedTrace entries
+whole-is Entries trace =
+    let es = listed beginning (moves trace) in
+    let last = range (after beginning (moves trace)) in
+    rw (lines-append es last, tally-append none es last, append-assoc)
+whole-is Records trace = rw append-nil

@@ -10,7 +10,7 @@ ghost use Rattle.model.specs.ScanLaws.{kept-first};
 ghost use Rattle.decimal.specs.Bridge.{Written};
 ghost use Rattle.scan.specs.Bridge.{placeAs};
 ghost use Rattle.entry_text.specs.Bridge.{tallyAs};
-ghost use Rattle.rescue_chunk.specs.Bridge.{rangeText, keptText, Small, Wrote, Half, ChunkRescued};
+ghost use Rattle.rescue_chunk.specs.Bridge.{rangeText, keptText, lastText, Small, Wrote, Half, ChunkRescued};
 use entry_text::Tally;
 use scan::Place;
 
@@ -172,4 +172,21 @@ pub fn rescue_chunk(
         s = write_next(output, input, to, out, s);
     }
     s
+}
+
+// What closes the output: the bytes that were skipped at the end, and "`end KEPT DOUBTFUL SKIPPED`". A trace has no last line.
+pub fn last_lines(output: Output, place: Place, t: Tally, out: &mut [u8]) -> usize
+    requires { ⌜ Small place t ⌝ }
+    requires { ⌜ place .from + place .run + 20 < 2 ^ 64 ⌝ }
+    requires { ⌜ 118 ≤ length (now out) ⌝ }
+    ensures { λ p. ⌜ Written (now (out .entry)) 0 (lastText output (placeAs place) (tallyAs t)) p (now (out .exit)) ⌝ }
+    ensures { λ p. ⌜ p ≤ 118 ⌝ }
+{
+    match output {
+        Output::Entries => {
+            let p = write_range(output, place, out, 0);
+            entry_text::write_totals(out, p, tally_range(t, place))
+        }
+        Output::Records => 0,
+    }
 }
