@@ -18,6 +18,12 @@ entryAs (Skipped at size) = model.skipped at size
 abbrev pub placeAs : Place → model.Place
 placeAs p = record { from = p .from; run = p .run; expected = p .expected }
 
+-- so many of the places before `to` have 20 bytes from there on
+pub record Whole (size to whole : ℕ) : Type 0 where
+  pub within : whole ≤ to
+  pub enough : (place : ℕ) → place < whole → place + 20 ≤ size
+  pub others : (place : ℕ) → whole ≤ place → place < to → size < place + 20
+
 -- From a place on the scan skips the bytes up to the next one, `next`; before `to` a record stands there. (The scan looks at a place where at least
 -- `least` bytes are left.)
 pub record Ahead (bytes : List ℕ) (at to next : ℕ) : Type 0 where

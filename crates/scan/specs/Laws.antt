@@ -7,6 +7,7 @@ use native.Mathlib.Nat.{add-zero}
 use native.Mathlib.Omega.{arith}
 use lib.ListN.{length, drop, replicate, length-drop}
 use lib.Seq.{drop-drop}
+use borrow.Author.Tests.{lt-ltb}
 use Rattle.model.specs.Accesses.{Access}
 use Rattle.model.specs.Trace.{numberAt}
 use Rattle.model.specs.Rescue.{stands, Move, keep, skip, scan, Place, range, keptAt, moved, listed, after}
@@ -34,6 +35,20 @@ one-passed bytes at to next h l m s p least g =
     let more : next + 1 - at ≡ suc (next - at) = omega arith in
     let step = scan-skipped least (drop next bytes) (omega arith) (omega arith) s in
     p least g ∙ rw (step, drop-drop 1 next bytes, more) (skips-more (next - at) (scan least 0 (drop (next + 1) bytes)))
+
+-- a record does not stand where it has no room
+pub all-passed : (bytes : List ℕ) (at to next : ℕ) → at ≤ next → next ≤ to → to ≤ length bytes → ((place : ℕ) → next ≤ place → place < to → length bytes < place + 20) →
+    Passed bytes at to next → Passed bytes at to to
+all-passed bytes at to next h g l short p = more (to - next) next h (omega arith) short p
+  where
+    none : (place : ℕ) → length bytes < place + 20 → stands (drop place bytes) ≡ false
+    none place s = rw (lt-ltb (length (drop place bytes)) 20 (omega (arith, length-drop place bytes)))
+
+    more : (k next : ℕ) → at ≤ next → next + k ≡ to → ((place : ℕ) → next ≤ place → place < to → length bytes < place + 20) → Passed bytes at to next → Passed bytes at to to
+    more zero next h e short p = let z : next ≡ to = omega arith in rw z at p
+    more (suc k) next h e short p =
+        more k (next + 1) (omega arith) (omega arith) (λ place a b. short place (omega arith) b)
+        (one-passed bytes at to next h (omega arith) l (none next (short next (omega arith) (omega arith))) p)
 
 -- WHAT THE MOVES LIST AND LEAVE
 

@@ -4,7 +4,7 @@ ghost use Prim.Native.Nat.{_+_, _<_, _≤_, _^_};
 ghost use lib.ListN.{length};
 ghost use Rattle.model.specs.Trace.{nextNumber};
 ghost use Rattle.model.specs.Rescue.{keptAt, skipped};
-ghost use Rattle.scan.specs.Bridge.{entryAs, placeAs, Ahead};
+ghost use Rattle.scan.specs.Bridge.{entryAs, placeAs, Whole, Ahead};
 
 // "Kept records and skipped ranges", each with its place; a kept record with its number, a range with its length.
 pub enum Entry {
@@ -13,19 +13,31 @@ pub enum Entry {
     Skipped(u64, u64),
 }
 
+// How many places before `to` have the 20 bytes of a record from there on.
+fn whole_places(size: usize, to: usize) -> usize
+    ensures { λ r. ⌜ Whole size to r ⌝ }
+{
+    if size < 20 {
+        return 0;
+    }
+    let whole = size - 19;
+    if whole < to { whole } else { to }
+}
+
 // The first place from `at` on, and before `to`, where a record stands; `to` where there is none.
 pub fn next_record(bytes: &[u8], at: usize, to: usize) -> usize
     requires { ⌜ (at ≤ to) × (to ≤ length (now bytes)) ⌝ }
     ensures { λ r. ⌜ Ahead (now (bytes .entry)) at to r ⌝ }
 {
+    let whole = whole_places(bytes.len(), to);
     let mut place = at;
-    while place < to {
-        if trace::stands(&bytes[place..]) {
+    while place < whole {
+        if trace::stands(bytes, place) {
             return place;
         }
         place += 1;
     }
-    place
+    to
 }
 
 // Where a scan stands: `run` bytes behind `from`, where the last kept record ended; and the number that is expected next.

@@ -1,12 +1,14 @@
 -- The number of a record beside the checks of what stands there: 22 is given after 20 and 21, and before 23; and a record stored part by part.
-use mathlib.Core.Path.{_≡_, refl}
+use mathlib.Core.Path.{_≡_, refl, ap, _∙_}
 use mathlib.Core.Bool.{Bool, true, false, not, _&&_}
 use mathlib.Core.List.{List, [], _∷_}
-use Prim.Native.Nat.{ℕ, _≤_}
-use lib.ListN.{length, getD}
-use lib.Seq.{sets, sets-eq}
+use Prim.Native.Nat.{ℕ, _+_, _≤_}
+use native.Mathlib.Nat.{add-zero}
+use native.Mathlib.Omega.{arith}
+use lib.ListN.{length, getD, drop, length-drop}
+use lib.Seq.{sets, sets-eq, getD-drop}
 use lib.Dec.{eqb, ltb}
-use borrow.Author.Tests.{eq-eqb}
+use borrow.Author.Tests.{eq-eqb, le-ltb}
 use Rattle.model.specs.Choice.{if_then_else_}
 use Rattle.model.specs.Checks.{_for_, refusal}
 use Rattle.model.specs.Lanes.{writeDword}
@@ -32,17 +34,13 @@ numbered bytes expected d h =
     rw (h, eq-eqb (recordNumber bytes) (recordNumber bytes) refl)
     (between (ltb (length bytes) 20) (not (eqb (getD bytes 0 0) 0x42 && eqb (getD bytes 1 0) 0x50)) (not (eqb (recordNumber bytes) expected)) (not (eqb (getD bytes 7 0) 0)))
 
--- a record stands where nothing is damaged
-none : (s m m′ z : Bool) → eqb (given s (not (m && m′)) false (not z)) 0 ≡ (not s && m && m′ && z)
-none true m m′ z = refl
-none false false m′ z = refl
-none false true false z = refl
-none false true true true = refl
-none false true true false = refl
-
-pub undamaged : (bytes : List ℕ) → eqb (damage bytes) 0 ≡ stands bytes
-undamaged bytes =
-    rw (eq-eqb (recordNumber bytes) (recordNumber bytes) refl) (none (ltb (length bytes) 20) (eqb (getD bytes 0 0) 0x42) (eqb (getD bytes 1 0) 0x50) (eqb (getD bytes 7 0) 0))
+-- whether a record stands at a place, by its bytes there
+pub stands-at : (bytes : List ℕ) (at : ℕ) → at + 20 ≤ length bytes →
+    stands (drop at bytes) ≡ (eqb (getD bytes at 0) 0x42 && eqb (getD bytes (at + 1) 0) 0x50 && eqb (getD bytes (at + 7) 0) 0)
+stands-at bytes at h =
+    let whole = le-ltb (length (drop at bytes)) 20 (omega (arith, length-drop at bytes)) in
+    let first = getD-drop at bytes 0 0 ∙ ap (λ (k : ℕ). getD bytes k 0) (add-zero at) in
+    rw (whole, first, getD-drop at bytes 1 0, getD-drop at bytes 7 0)
 
 -- THE WRITER
 

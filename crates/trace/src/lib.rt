@@ -2,7 +2,7 @@
 ghost use mathlib.Core.Path.{_≡_};
 ghost use mathlib.Core.List.{[], _∷_};
 ghost use Prim.Native.Nat.{_+_, _≤_};
-ghost use lib.ListN.{length};
+ghost use lib.ListN.{length, drop};
 ghost use lib.Seq.{sets};
 ghost use Rattle.model.specs.Checks.{refusal};
 ghost use Rattle.model.specs.Lanes.{dwordOf};
@@ -54,11 +54,18 @@ fn damage(bytes: &[u8]) -> u8
     )
 }
 
-// "Where a whole record with mark and zero byte stands", at the start of the bytes (document 02, L14).
-pub fn stands(bytes: &[u8]) -> bool
-    ensures { λ r. ⌜ r ≡ stands (now (bytes .entry)) ⌝ }
+// "Where a whole record with mark and zero byte stands": at a place with 20 bytes from there on (document 02, L14). The first byte decides most places.
+pub fn stands(bytes: &[u8], at: usize) -> bool
+    requires { ⌜ at + 20 ≤ length (now bytes) ⌝ }
+    ensures { λ r. ⌜ r ≡ stands (drop at (now (bytes .entry))) ⌝ }
 {
-    damage(bytes) == 0
+    if bytes[at] != MARK[0] {
+        return false;
+    }
+    if bytes[at + 1] != MARK[1] {
+        return false;
+    }
+    bytes[at + 7] == 0
 }
 
 // The number that a whole record says.
