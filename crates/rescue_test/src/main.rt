@@ -2,9 +2,8 @@
 // four bytes, least byte first, as the independent program wrote them: 0 for a lent list, 1 for a line an entry and 2 for the kept records anew; how many
 // numbers the list has, or how many bytes are read at a time; and how many bytes the trace has.
 ghost use mathlib.Core.Path.{_≡_};
-ghost use mathlib.Core.Bool.{_&&_};
-ghost use Prim.Native.Nat.{_+_, _<_, _≤_};
-ghost use lib.Dec.{ltb};
+ghost use mathlib.Core.Bool.{true};
+ghost use Prim.Native.Nat.{_+_, _<_, _≤_, _^_};
 ghost use lib.ListN.{length};
 ghost use Rattle.rescue_chunk.specs.Bridge.{Small};
 use entry_text::Tally;
@@ -56,22 +55,34 @@ fn show_list(list: &[u64]) {
 fn list_of(numbers: u32) -> usize
     ensures { λ r. ⌜ r ≤ 3000 ⌝ }
 {
-    if numbers > 3000 { 3000 } else { numbers as usize }
+    if numbers > 3000 {
+        3000
+    } else {
+        numbers as usize
+    }
+}
+
+fn rescue_into(trace: &[u8], list: &mut [u64]) {
+    fill(list);
+    let answer = rescue::rescue(trace, list);
+    show_answer(answer);
+    show_list(list);
 }
 
 fn into_list(numbers: u32, trace: &[u8]) {
     let mut all = [0u64; 3000];
     let size = list_of(numbers);
-    fill(&mut all[0..size]);
-    let answer = rescue::rescue(trace, &mut all[0..size]);
-    show_answer(answer);
-    show_list(&all[0..size]);
+    rescue_into(trace, &mut all[0..size]);
 }
 
 // IN PORTIONS
 
 fn output_of(how: u32) -> Output {
-    if how == 1 { Output::Entries } else { Output::Records }
+    if how == 1 {
+        Output::Entries
+    } else {
+        Output::Records
+    }
 }
 
 // Where a trace's rescue stands: the bytes from `at` to `size` of the buffer are left.
@@ -122,12 +133,40 @@ fn least_of(ended: bool) -> usize
 
 // No trace of a case is longer.
 fn is_near(place: Place) -> bool
-    ensures { λ r. ⌜ r ≡ (ltb (place .from) 4294967296 && ltb (place .run) 4294967296) ⌝ }
+    ensures { λ r. ⌜ (r ≡ true → place .from + place .run + 65520 < 2 ^ 64) ⌝ }
 {
     (place.from < 4294967296) & (place.run < 4294967296)
 }
 
-// Keeps what the last portion left, reads a portion behind it and scans it.
+// Scans the bytes at hand, and writes what they give.
+fn scan_portion(
+    output: Output,
+    before: Rescued,
+    ended: bool,
+    bytes: &[u8],
+    out: &mut [u8],
+) -> Rescued
+    requires { ⌜ length (now bytes) ≤ 65520 ⌝ }
+    requires { ⌜ Small (before .place) (before .tally) ⌝ }
+    requires { ⌜ length (now out) ≡ 393222 ⌝ }
+    ensures { λ r. ⌜ (r .at ≤ length (now (bytes .entry))) × Small (r .place) (r .tally) ⌝ }
+{
+    let place = before.place;
+    let tally = before.tally;
+    if !is_near(place) {
+        return Rescued {
+            at: 0,
+            end: 0,
+            place: place,
+            tally: tally,
+        };
+    }
+    let rescued = rescue_chunk::rescue_chunk(output, least_of(ended), place, tally, bytes, out);
+    io::write_all(1, stream::text(&out[0..], rescued.end));
+    rescued
+}
+
+// Keeps what the last portion left, reads a portion behind it and scans both.
 fn rescue_portion(
     output: Output,
     last: Portion,
@@ -148,14 +187,7 @@ fn rescue_portion(
         return last;
     }
     let size = kept + io::read_full(0, &mut input[kept..end]);
-    let place = before.place;
-    if !is_near(place) {
-        return last;
-    }
-    let least = least_of(ended);
-    let tally = before.tally;
-    let rescued = rescue_chunk::rescue_chunk(output, least, place, tally, &input[0..size], out);
-    io::write_all(1, stream::text(&out[0..], rescued.end));
+    let rescued = scan_portion(output, before, ended, &input[0..size], out);
     Portion {
         size: size,
         rescued: rescued,
