@@ -13,7 +13,7 @@ use Rattle.model.specs.Trace.{recorded, readRecord}
 use Rattle.model.specs.Convert.{traceForm, written}
 use Rattle.model.specs.Bench.{q}
 use Rattle.model.specs.Rescue.{scan, kept, skipped, listed, after, entries}
-use Rattle.model.specs.RescueLaws.{StandsAt, outside, stands-outside}
+use Rattle.model.specs.BoundaryLaws.{StandsAt, outside, stands-outside}
 
 -- NEVER BACK
 
@@ -25,6 +25,12 @@ frontsInside = written traceForm 0 (map (λ i. q 1 0 0 (0x5042 + 65536 * i) 0 0)
 pub never-back : entries (set frontsInside 0 0) ≡ skipped 0 8 ∷ kept 8 0 false ∷ kept 28 1 false ∷ kept 48 2 false ∷ skipped 68 12 ∷ []
 unfolding entries listed after scan written
 never-back = refl
+
+-- and they are read as accesses that no record of the trace has
+pub never-read : map (λ k. readRecord (drop (8 + 20 * k) (set frontsInside 0 0)) k) (0 ∷ 1 ∷ 2 ∷ [])
+    ≡ map (λ i. recorded (q 0 0 0 0 (0x5042 + 65536 * i) 1)) (1 ∷ 2 ∷ 3 ∷ [])
+unfolding readRecord written
+never-read = refl
 
 -- between its start and its end the scan stands at no boundary: each lies inside a record that it keeps
 inside-kept : (b : ℕ) → every (outside b) (entries (set frontsInside 0 0)) ≡ false → StandsAt (set frontsInside 0 0) b → ⊥

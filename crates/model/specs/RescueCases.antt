@@ -51,13 +51,14 @@ pub strays-told : map entries ((0x42 ∷ r 0) ∷ (0x42 ∷ 0x50 ∷ r 0) ∷ (0
 unfolding entries listed after scan
 strays-told = refl
 
--- No bytes and no places (14.6); exact room; no place, and two numbers that are no place; 14.9: 2 bytes and a record, with 1 place, with 1 place and
--- two numbers more, with 2 places and one number more.
+-- No bytes and no places (14.6); exact room, for one kept record and for two; no place, and two numbers that are no place; 14.9: 2 bytes and a record,
+-- with 1 place, with 1 place and two numbers more, with 2 places and one number more.
 pub lists-told :
-    rescue [] [] ∷ rescue (r 0) (9 ∷ 9 ∷ 9 ∷ []) ∷ rescue (r 0) [] ∷ rescue (r 0) (9 ∷ 9 ∷ [])
+    rescue [] [] ∷ rescue (r 0) (9 ∷ 9 ∷ 9 ∷ []) ∷ rescue (r 0 ++ r 1) (replicate 6 9) ∷ rescue (r 0) [] ∷ rescue (r 0) (9 ∷ 9 ∷ [])
     ∷ map (rescue (7 ∷ 7 ∷ r 5)) (replicate 3 9 ∷ replicate 5 9 ∷ replicate 7 9 ∷ [])
     ≡ record { answer = count 0; list = [] }
     ∷ record { answer = count 1; list = 1 ∷ 0 ∷ 0 ∷ [] }
+    ∷ record { answer = count 2; list = 1 ∷ 0 ∷ 0 ∷ 1 ∷ 20 ∷ 1 ∷ [] }
     ∷ record { answer = refused 60; list = [] }
     ∷ record { answer = refused 60; list = 9 ∷ 9 ∷ [] }
     ∷ record { answer = refused 60; list = 3 ∷ 0 ∷ 2 ∷ [] }
@@ -76,6 +77,14 @@ pub texts-told : map rescueText ([] ∷ r 0 ∷ (7 ∷ r 10) ∷ [])
     ∷ []
 unfolding rescueText entries listed after scan entryLines entryText tally totalText decimalText digitsWithin
 texts-told = refl
+
+-- `kept 0 0`, `doubtful 20 9`, `skipped 40 3`, `doubtful 43 30`, `kept 63 31`, `end 4 2 3`
+pub totals-told : rescueText (r 0 ++ r 9 ++ (7 ∷ 7 ∷ 7 ∷ []) ++ r 30 ++ r 31)
+    ≡ (107 ∷ 101 ∷ 112 ∷ 116 ∷ 32 ∷ 48 ∷ 32 ∷ 48 ∷ 10 ∷ []) ++ (100 ∷ 111 ∷ 117 ∷ 98 ∷ 116 ∷ 102 ∷ 117 ∷ 108 ∷ 32 ∷ 50 ∷ 48 ∷ 32 ∷ 57 ∷ 10 ∷ [])
+    ++ (115 ∷ 107 ∷ 105 ∷ 112 ∷ 112 ∷ 101 ∷ 100 ∷ 32 ∷ 52 ∷ 48 ∷ 32 ∷ 51 ∷ 10 ∷ []) ++ (100 ∷ 111 ∷ 117 ∷ 98 ∷ 116 ∷ 102 ∷ 117 ∷ 108 ∷ 32 ∷ 52 ∷ 51 ∷ 32 ∷ 51 ∷ 48 ∷ 10 ∷ [])
+    ++ (107 ∷ 101 ∷ 112 ∷ 116 ∷ 32 ∷ 54 ∷ 51 ∷ 32 ∷ 51 ∷ 49 ∷ 10 ∷ []) ++ (101 ∷ 110 ∷ 100 ∷ 32 ∷ 52 ∷ 32 ∷ 50 ∷ 32 ∷ 51 ∷ 10 ∷ [])
+unfolding rescueText entries listed after scan entryLines entryText tally totalText decimalText digitsWithin
+totals-told = refl
 
 -- doubtful records are kept, with new numbers
 pub rescued-told : rescuedTrace ((7 ∷ r 5) ++ (7 ∷ r 9)) ≡ r 0 ++ r 1

@@ -1,20 +1,19 @@
 -- Laws of the scan: by what stands at a place, one move after another, and in chunks with any borders.
-use mathlib.Core.Path.{_≡_, refl, sym, ap, _∙_}
+use mathlib.Core.Path.{_≡_, refl, _∙_}
 use mathlib.Core.Bool.{Bool, true, false, not, _&&_}
-use mathlib.Core.List.{List, [], _∷_, _++_, append-assoc, append-nil}
+use mathlib.Core.List.{List, [], _∷_, _++_, append-assoc}
 use Prim.Native.Nat.{ℕ, zero, suc, _+_, _≤_, _<_}
 use native.Mathlib.Omega.{arith}
-use lib.ListN.{length, getD, take, drop, length-append, length-drop, List·getD-append}
+use lib.ListN.{length, getD, drop, length-append, length-drop, List·getD-append}
 use lib.Seq.{drop-append-le, drop-drop}
 use lib.Dec.{eqb, ltb}
 use borrow.Author.Tests.{lt-ltb, le-ltb, ltb-true, ltb-false, not-true}
 use Rattle.model.specs.Choice.{if_then_else_}
-use Rattle.model.specs.TestLaws.{and-left, and-right}
-use Rattle.model.specs.Accesses.{Access}
+use Rattle.model.specs.TestLaws.{and-left}
 use Rattle.model.specs.Trace.{numberAt, accessAt}
 use Rattle.model.specs.TraceLaws.{number-first, access-first}
 use Rattle.model.specs.ConvertLaws.{FromShorter, by-length}
-use Rattle.model.specs.Rescue.{stands, Move, keep, skip, scan, moves, Entry, Place, range, listedBy, moved, listed, after}
+use Rattle.model.specs.Rescue.{stands, Move, keep, skip, scan, moves, Entry, Place, range, moved, listed, after}
 
 -- WHAT STANDS
 
@@ -134,3 +133,20 @@ ahead more = by-length (λ bytes. scan 1 0 (bytes ++ more) ≡ scan 20 0 bytes +
               i (drop 1 bytes) (omega (arith, length-drop 1 bytes)),
               drop-drop (sizes (scan 20 0 (drop 1 bytes))) 1 bytes,
             )
+
+-- fewer bytes wait than a record has
+pub left-short : (bytes : List ℕ) → length (leftOf 20 bytes) < 20
+unfolding sizes
+left-short = by-length (λ bytes. length (leftOf 20 bytes) < 20) step
+  where
+    step : FromShorter (λ bytes. length (leftOf 20 bytes) < 20)
+    step bytes i = by (ltb (length bytes) 20) refl (stands bytes) refl
+      where
+        by : (short : Bool) → ltb (length bytes) 20 ≡ short → (there : Bool) → stands bytes ≡ there → length (leftOf 20 bytes) < 20
+        by true e there g = rw (scan-short 20 bytes (ltb-true (length bytes) 20 e)) (ltb-true (length bytes) 20 e)
+        by false e true g =
+            let l = ltb-false (length bytes) 20 e in
+            rw (scan-kept 20 bytes l g, ← drop-drop (sizes (scan 20 0 (drop 20 bytes))) 20 bytes) (i (drop 20 bytes) (omega (arith, length-drop 20 bytes)))
+        by false e false g =
+            let l = ltb-false (length bytes) 20 e in
+            rw (scan-skipped 20 bytes (omega arith) l g, ← drop-drop (sizes (scan 20 0 (drop 1 bytes))) 1 bytes) (i (drop 1 bytes) (omega (arith, length-drop 1 bytes)))

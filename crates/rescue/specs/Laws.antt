@@ -14,7 +14,7 @@ use Rattle.model.specs.Choice.{if_then_else_}
 use Rattle.model.specs.TestLaws.{or-left, or-right}
 use Rattle.model.specs.Trace.{nextNumber, numberAt}
 use Rattle.model.specs.Rescue.{Entry, kept, skipped, Place, range, keptAt, moved, listed, after, scan, entryNumbers, numbersOf, entries, count, refused, rescue}
-use Rattle.model.specs.RescueLaws.{entry-three, numbers-length, numbers-append}
+use Rattle.model.specs.LentListLaws.{entry-three, numbers-length, numbers-append}
 use Rattle.model.specs.ScanLaws.{kept-first, entriesFrom, entries-then}
 use Rattle.scan.specs.Bridge.{placeAs, Ahead}
 use Rattle.scan.specs.Laws.{skips, behind, skips-listed, skips-after, upTo, record-listed, record-after, record-ahead}
