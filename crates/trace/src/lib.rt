@@ -54,15 +54,13 @@ fn damage(bytes: &[u8]) -> u8
     )
 }
 
-// "Where a whole record with mark and zero byte stands": at a place with 20 bytes from there on (document 02, L14). The first byte decides most places.
+// "Where a whole record with mark and zero byte stands": at a place with 20 bytes from there on (document 02, L14). Both bytes of the mark are compared at
+// once: most places fail there.
 pub fn stands(bytes: &[u8], at: usize) -> bool
     requires { ⌜ at + 20 ≤ length (now bytes) ⌝ }
     ensures { λ r. ⌜ r ≡ stands (drop at (now (bytes .entry))) ⌝ }
 {
-    if bytes[at] != MARK[0] {
-        return false;
-    }
-    if bytes[at + 1] != MARK[1] {
+    if number_of(bytes[at], bytes[at + 1]) != number_of(MARK[0], MARK[1]) {
         return false;
     }
     bytes[at + 7] == 0

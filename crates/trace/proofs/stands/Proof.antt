@@ -1,35 +1,34 @@
--- Test by test: the first that fails decides.
-use mathlib.Core.Path.{_≡_, sym, _∙_}
-use mathlib.Core.Bool.{_&&_}
+-- By whether the mark stands there, and then by the zero byte.
+use mathlib.Core.Path.{sym, _∙_}
 use Prim.Native.Nat.{_+_}
-use lib.Dec.{eqb}
-use lib.ListN.{getD, drop}
+use native.Mathlib.Omega.{arith}
 use denote.Ref.{now}
 use borrow.Author.Needs.{needs}
-use borrow.Author.Tests.{eq-eqb, ne-eqb}
-use Rattle.model.specs.Rescue.{stands}
-use Rattle.trace.specs.Laws.{stands-at}
+use Rattle.trace.specs.Laws.{marked, unmarked}
 use Rattle.trace.proofs.stands.Statement.{statement}
 use Rattle.trace.proofs.stands.Tie as tie
 
--- by its bytes
-there : (c : tie.Start) → let bytes = now (c .args .bytes) in let at = c .args .at in
-    stands (drop at bytes) ≡ (eqb (getD bytes at 0) 0x42 && eqb (getD bytes (at + 1) 0) 0x50 && eqb (getD bytes (at + 7) 0) 0)
-there c = stands-at (now (c .args .bytes)) (c .args .at) (c .pre)
+abbrev start : tie.After-number-of → tie.Start
+start c = c .before .before .before .before
 
 returns : tie.Need-returns
-returns c = sym (there (c .before .before) ∙ rw (ne-eqb _ 0x42 (c .if1 .taken)))
+returns c =
+    let second = c .before in
+    let first = second .before in
+    let s = start first in
+    sym (unmarked (now (s .args .bytes)) (s .args .at) (s .pre) (λ e. c .if1 .taken (first .number-of .ensures ∙ e ∙ sym (second .number-of2 .ensures))))
 
 returns-2 : tie.Need-returns-2
-returns-2 c = let first = c .before .before in sym (there (first .before .before) ∙ rw (eq-eqb _ 0x42 (first .if1 .left), ne-eqb _ 0x50 (c .if2 .taken)))
-
-returns-3 : tie.Need-returns-3
-returns-3 c =
-    let second = c .before in
-    let first = second .before .before in
-    sym (there (first .before .before) ∙ rw (eq-eqb _ 0x42 (first .if1 .left), eq-eqb _ 0x50 (second .if2 .left)))
+returns-2 c =
+    let e = c .before in
+    let second = e .before in
+    let first = second .before in
+    let s = start first in
+    let byte = first .before .shared-slice-known3 .given in
+    sym (marked (now (s .args .bytes)) (s .args .at) (s .pre) (omega (arith, byte (s .args .at))) (omega (arith, byte (s .args .at + 1))) (sym (first .number-of .ensures) ∙ e .if1 .left ∙ second .number-of2 .ensures))
 
 pub stands-spec : {M : Type 1} → statement M
 stands-spec =
     tie.close
-    (tie.spec (λ c. search needs) (λ c. search needs) returns (λ c. search needs) (λ c. search needs) (λ c. search needs) returns-2 (λ c. search needs) (λ c. search needs) returns-3)
+    (tie.spec (λ c. search needs) (λ c. search needs) (λ c. search needs) (λ c κs. search needs) (λ c. search needs) (λ c. search needs) (λ c κs. search needs)
+    returns (λ c. search needs) (λ c. search needs) returns-2)
