@@ -1,7 +1,7 @@
 // Document 02, L14: the line of an entry and the last line of a rescue, each stored in a lent buffer from a place on; the place after it is given.
 ghost use mathlib.Core.Path.{_≡_};
 ghost use mathlib.Core.List.{_++_};
-ghost use Prim.Native.Nat.{_+_, _<_, _≤_, _^_};
+ghost use Prim.Native.Nat.{_+_, _≤_};
 ghost use lib.ListN.{length};
 ghost use Rattle.model.specs.Text.{fieldText};
 ghost use Rattle.model.specs.RescueText.{entryText, tallied, totalText};

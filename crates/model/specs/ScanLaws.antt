@@ -8,7 +8,6 @@ use lib.ListN.{length, getD, drop, length-append, length-drop, List·getD-append
 use lib.Seq.{drop-append-le, drop-drop}
 use lib.Dec.{eqb, ltb}
 use borrow.Author.Tests.{lt-ltb, le-ltb, ltb-true, ltb-false, not-true}
-use Rattle.model.specs.Choice.{if_then_else_}
 use Rattle.model.specs.TestLaws.{and-left}
 use Rattle.model.specs.Trace.{numberAt, accessAt}
 use Rattle.model.specs.TraceLaws.{number-first, access-first}

@@ -1,6 +1,5 @@
 -- What contracts of rescue cite: what is found and answered, as the model's; how far a list is filled; and a trace half scanned.
 use mathlib.Core.Path.{_≡_}
-use mathlib.Core.Bool.{Bool}
 use mathlib.Core.List.{List, _++_}
 use Prim.Native.Nat.{ℕ, _*_, _/_}
 use lib.ListN.{length, take, drop}

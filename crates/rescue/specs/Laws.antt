@@ -4,16 +4,15 @@ use mathlib.Core.Logic.{_⊎_, inl, inr}
 use mathlib.Core.Bool.{Bool, true, false, not, _&&_, _||_}
 use mathlib.Core.List.{List, [], _∷_, _++_, append-assoc, append-nil}
 use Prim.Native.Nat.{ℕ, zero, suc, _+_, _-_, _*_, _/_, _≤_, _<_}
-use native.Mathlib.Nat.{add-zero}
 use native.Mathlib.Omega.{arith}
-use lib.ListN.{length, take, drop, length-append, length-drop, length-take}
+use lib.ListN.{length, take, drop, length-append, length-drop}
 use lib.Seq.{sets, sets-eq, take-all, take-at, take-append-le, drop-append-add, drop-drop, drop-length, length-take-le}
 use lib.Dec.{eqb, ltb}
 use borrow.Author.Tests.{lt-ltb, le-ltb, ltb-true, ltb-false, eqb-true, eqb-false}
 use Rattle.model.specs.Choice.{if_then_else_}
 use Rattle.model.specs.TestLaws.{or-left, or-right}
 use Rattle.model.specs.Trace.{nextNumber, numberAt}
-use Rattle.model.specs.Rescue.{Entry, kept, skipped, Place, range, keptAt, moved, listed, after, scan, entryNumbers, numbersOf, entries, count, refused, rescue}
+use Rattle.model.specs.Rescue.{Entry, skipped, Place, range, keptAt, moved, listed, after, scan, entryNumbers, numbersOf, entries, count, refused, rescue}
 use Rattle.model.specs.LentListLaws.{entry-three, numbers-length, numbers-append}
 use Rattle.model.specs.ScanLaws.{kept-first, entriesFrom, entries-then}
 use Rattle.scan.specs.Bridge.{placeAs, Ahead}

@@ -1,6 +1,6 @@
 -- What contracts of rescue_chunk cite: what moves write in each of the two outputs, and what they list and leave; and a chunk, half scanned and whole.
 use mathlib.Core.Path.{_≡_}
-use mathlib.Core.List.{List, [], _∷_, _++_}
+use mathlib.Core.List.{List, [], _++_}
 use Prim.Native.Nat.{ℕ, _+_, _≤_}
 use lib.ListN.{length, drop}
 use Rattle.model.specs.Trace.{recordBytes, numberAfter, numberAt, accessAt}

@@ -2,10 +2,10 @@
 use mathlib.Core.Path.{_≡_, refl, sym, ap, _∙_}
 use mathlib.Core.Bool.{Bool, true, false, not}
 use mathlib.Core.List.{List, [], _∷_, _++_, append-assoc, append-nil}
-use Prim.Native.Nat.{ℕ, zero, suc, _+_, _-_, _≤_, _<_}
+use Prim.Native.Nat.{ℕ, zero, suc, _+_, _≤_}
 use native.Mathlib.Nat.{add-zero}
 use native.Mathlib.Omega.{arith}
-use lib.ListN.{length, drop, length-append, length-drop}
+use lib.ListN.{length, drop, length-drop}
 use lib.Dec.{eqb}
 use borrow.Author.Tests.{eqb-true, eq-eqb}
 use Rattle.model.specs.Choice.{if_then_else_}
@@ -16,7 +16,7 @@ use Rattle.model.specs.Rescue.{Move, keep, skip, scan, Entry, kept, skipped, Pl
 use Rattle.model.specs.RescueText.{Tally, none, tallied, tally, entryLines, accessesOf, rescueText, rescuedTrace}
 use Rattle.model.specs.ScanLaws.{scan-short, kept-first, sizes, listed-append, after-append}
 use Rattle.decimal.specs.Bridge.{Written}
-use Rattle.decimal.specs.Laws.{then, begun}
+use Rattle.decimal.specs.Laws.{then}
 use Rattle.scan.specs.declared.Place as code
 use Rattle.scan.specs.Bridge.{placeAs}
 use Rattle.scan.specs.Laws.{skips, behind, skips-listed, skips-after}
@@ -25,7 +25,7 @@ use Rattle.entry_text.specs.Bridge.{tallyAs}
 use Rattle.rescue_chunk.specs.declared.Output.{Output}
 use Rattle.rescue_chunk.specs.declared.Output.the-variants.{Entries, Records}
 use Rattle.rescue_chunk.specs.declared.Rescued.{Rescued}
-use Rattle.rescue_chunk.specs.Bridge.{outputOf, rangeText, keptText, lastText, wholeOf, Small, Wrote, Half, atFirst}
+use Rattle.rescue_chunk.specs.Bridge.{outputOf, rangeText, keptText, lastText, wholeOf, Small, Wrote, Half}
 
 -- IN TWO PARTS
 

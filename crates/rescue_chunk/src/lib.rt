@@ -2,8 +2,7 @@
 ghost use mathlib.Core.Path.{_≡_};
 ghost use mathlib.Core.List.{List, [], _∷_};
 ghost use Prim.Native.Nat.{ℕ, _+_, _-_, _*_, _<_, _≤_, _^_};
-ghost use lib.ListN.{length, drop};
-ghost use Rattle.model.specs.Trace.{numberAt, accessAt};
+ghost use lib.ListN.{length};
 ghost use Rattle.model.specs.Rescue.{range};
 ghost use Rattle.model.specs.RescueText.{tally};
 ghost use Rattle.model.specs.ScanLaws.{kept-first};

@@ -10,21 +10,21 @@ use native.Mathlib.Omega.{arith}
 use lib.ListN.{length, take, drop, length-append}
 use lib.Seq.{length-take-le}
 use lib.Dec.{eqb, lit≤}
-use borrow.Author.Tests.{eqb-true, ne-eqb}
+use borrow.Author.Tests.{ne-eqb}
 use Rattle.model.specs.Choice.{if_then_else_}
 use Rattle.model.specs.TestLaws.{or-right, no-both, if-case}
-use Rattle.model.specs.Rescue.{Move, scan, moves, Place, beginning, listed, after}
-use Rattle.model.specs.RescueText.{Tally, none, tally}
+use Rattle.model.specs.Rescue.{Move, scan, moves, beginning, listed, after}
+use Rattle.model.specs.RescueText.{none, tally}
 use Rattle.model.specs.ScanLaws.{sizes, listed-append, after-append, leftOf, ahead}
 use Rattle.decimal.specs.Laws.{text-there}
 use Rattle.stream.specs.declared.Chunk.{Chunk}
 use Rattle.stream.specs.Bridge.{Keeps, Reads, chunkBytes, leastOf, goesOn, brokeOff}
 use Rattle.stream.specs.Laws.{kept-front, more-is, end-is}
 use Rattle.rescue_chunk.specs.declared.Output.{Output}
-use Rattle.rescue_chunk.specs.Bridge.{outputOf, lastText, wholeOf, ChunkRescued}
+use Rattle.rescue_chunk.specs.Bridge.{outputOf, wholeOf, ChunkRescued}
 use Rattle.rescue_chunk.specs.Laws.{outputs-append, tally-append, whole-is}
 use Rattle.rescuer.specs.declared.Turn.{Turn}
-use Rattle.rescuer.specs.Bridge.{firstTurn, Stood, stoodAt, Going, bytesOf, movesOf, Turned, mostChunks, Reached, Ended, closingText}
+use Rattle.rescuer.specs.Bridge.{firstTurn, Stood, stoodAt, Going, bytesOf, movesOf, Turned, Reached, Ended, closingText}
 
 -- A CHUNK
 

@@ -1,6 +1,6 @@
 -- One place more is passed; and what the moves up to the next record, and the record, list and leave.
-use mathlib.Core.Path.{_≡_, refl, sym, ap, _∙_}
-use mathlib.Core.Bool.{true, false}
+use mathlib.Core.Path.{_≡_, refl, ap, _∙_}
+use mathlib.Core.Bool.{false}
 use mathlib.Core.List.{List, [], _∷_, _++_, append-assoc, append-nil}
 use Prim.Native.Nat.{ℕ, zero, suc, _+_, _-_, _≤_, _<_}
 use native.Mathlib.Nat.{add-zero}
@@ -8,10 +8,9 @@ use native.Mathlib.Omega.{arith}
 use lib.ListN.{length, drop, replicate, length-drop}
 use lib.Seq.{drop-drop}
 use borrow.Author.Tests.{lt-ltb}
-use Rattle.model.specs.Accesses.{Access}
 use Rattle.model.specs.Trace.{numberAt}
-use Rattle.model.specs.Rescue.{stands, Move, keep, skip, scan, Place, range, keptAt, moved, listed, after}
-use Rattle.model.specs.ScanLaws.{stands-whole, scan-skipped, scan-kept, kept-first, sizes, listed-append, after-append}
+use Rattle.model.specs.Rescue.{stands, Move, skip, scan, Place, range, keptAt, moved, listed, after}
+use Rattle.model.specs.ScanLaws.{stands-whole, scan-skipped, scan-kept, kept-first, listed-append, after-append}
 use Rattle.scan.specs.Bridge.{Ahead}
 
 abbrev pub skips : (n : ℕ) → List Move

@@ -1,13 +1,12 @@
 -- By whether a record stands ahead: then it is listed behind what was skipped.
-use mathlib.Core.Path.{_≡_, refl, sym, ap, _∙_}
-use Prim.Native.Nat.{_+_, _-_, _≤_, _<_, _^_}
+use mathlib.Core.Path.{_≡_, refl}
+use Prim.Native.Nat.{_+_, _≤_, _<_, _^_}
 use native.Mathlib.Omega.{arith}
-use lib.ListN.{length, drop, length-drop}
+use lib.ListN.{length, length-drop}
 use denote.Ref.{now}
 use borrow.Author.Needs.{needs}
 use Rattle.model.specs.LaneLaws.{from-place}
-use Rattle.model.specs.Trace.{numberAt}
-use Rattle.scan.specs.Bridge.{placeAs, Ahead}
+use Rattle.scan.specs.Bridge.{Ahead}
 use Rattle.scan.specs.Laws.{record-within}
 use Rattle.rescue.specs.Laws.{half-skipped, half-listed}
 use Rattle.rescue.proofs.list_next.Statement.{statement}

@@ -1,5 +1,4 @@
 -- By whether a place is left.
-use mathlib.Core.Path.{_≡_}
 use Prim.Native.Nat.{_/_, _<_}
 use native.Mathlib.Omega.{arith}
 use lib.Dec.{eqb}

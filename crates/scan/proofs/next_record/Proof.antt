@@ -1,8 +1,7 @@
 -- Each turn passes one place where no record stands; behind the last with room for one, none does.
-use mathlib.Core.Path.{_≡_, sym, _∙_}
+use mathlib.Core.Path.{sym, _∙_}
 use Prim.Native.Nat.{_-_, _≤_}
 use native.Mathlib.Omega.{arith}
-use lib.ListN.{drop}
 use denote.Ref.{now}
 use borrow.Author.Needs.{needs}
 use Rattle.scan.specs.Laws.{Passed, none-passed, one-passed, all-passed}
