@@ -24,6 +24,12 @@ pub record Whole (size to whole : ℕ) : Type 0 where
   pub enough : (place : ℕ) → place < whole → place + 20 ≤ size
   pub others : (place : ℕ) → whole ≤ place → place < to → size < place + 20
 
+-- no record stands at a place before `found`, and one at `found` where that is among the places
+pub record FirstOf (bytes : List ℕ) (places found : ℕ) : Type 0 where
+  pub within : found ≤ places
+  pub none : (place : ℕ) → place < found → stands (drop place bytes) ≡ false
+  pub there : found < places → stands (drop found bytes) ≡ true
+
 -- From a place on the scan skips the bytes up to the next one, `next`; before `to` a record stands there. (The scan looks at a place where at least
 -- `least` bytes are left.)
 pub record Ahead (bytes : List ℕ) (at to next : ℕ) : Type 0 where

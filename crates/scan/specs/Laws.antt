@@ -20,34 +20,34 @@ skips-more : (n : ℕ) (ms : List Move) → skips n ++ (skip ∷ ms) ≡ skips (
 skips-more zero ms = refl
 skips-more (suc n) ms = ap (λ (l : List Move). skip ∷ l) (skips-more n ms)
 
--- THE LOOP
+-- PLACES WITHOUT A RECORD
 
-abbrev pub Passed : (bytes : List ℕ) → (at to next : ℕ) → Type 0
+abbrev Passed : (bytes : List ℕ) → (at to next : ℕ) → Type 0
 Passed bytes at to next = (least : ℕ) → to + least ≤ length bytes + 1 → scan least 0 (drop at bytes) ≡ skips (next - at) ++ scan least 0 (drop next bytes)
 
-pub none-passed : (bytes : List ℕ) (at to : ℕ) → Passed bytes at to at
-none-passed bytes at to least h = let zero-long : at - at ≡ 0 = omega arith in rw zero-long
-
-pub one-passed : (bytes : List ℕ) (at to next : ℕ) → at ≤ next → next < to → to ≤ length bytes → stands (drop next bytes) ≡ false → Passed bytes at to next → Passed bytes at to (next + 1)
-one-passed bytes at to next h l m s p least g =
-    let long = length-drop next bytes in
-    let more : next + 1 - at ≡ suc (next - at) = omega arith in
-    let step = scan-skipped least (drop next bytes) (omega arith) (omega arith) s in
-    p least g ∙ rw (step, drop-drop 1 next bytes, more) (skips-more (next - at) (scan least 0 (drop (next + 1) bytes)))
+-- where no record stands the scan skips byte after byte
+pub passed : (bytes : List ℕ) (at to next : ℕ) → at ≤ next → next ≤ to → to ≤ length bytes → ((place : ℕ) → at ≤ place → place < next → stands (drop place bytes) ≡ false) →
+    Passed bytes at to next
+passed bytes at to next h l m none least g = by (next - at) next h l (omega arith) none
+  where
+    by : (k next : ℕ) → at ≤ next → next ≤ to → at + k ≡ next → ((place : ℕ) → at ≤ place → place < next → stands (drop place bytes) ≡ false) →
+        scan least 0 (drop at bytes) ≡ skips (next - at) ++ scan least 0 (drop next bytes)
+    by zero next h l e none =
+        let z : next - at ≡ 0 = omega arith in
+        let here : at ≡ next = omega arith in
+        rw (z, here)
+    by (suc k) next h l e none =
+        let last = at + k in
+        let one : next ≡ last + 1 = omega arith in
+        let more : last + 1 - at ≡ suc (last - at) = omega arith in
+        let long = length-drop last bytes in
+        let step = scan-skipped least (drop last bytes) (omega arith) (omega arith) (none last (omega arith) (omega arith)) in
+        by k last (omega arith) (omega arith) refl (λ place a b. none place a (omega arith))
+        ∙ rw (one, more, step, drop-drop 1 last bytes) (skips-more (last - at) (scan least 0 (drop (last + 1) bytes)))
 
 -- a record does not stand where it has no room
-pub all-passed : (bytes : List ℕ) (at to next : ℕ) → at ≤ next → next ≤ to → to ≤ length bytes → ((place : ℕ) → next ≤ place → place < to → length bytes < place + 20) →
-    Passed bytes at to next → Passed bytes at to to
-all-passed bytes at to next h g l short p = more (to - next) next h (omega arith) short p
-  where
-    none : (place : ℕ) → length bytes < place + 20 → stands (drop place bytes) ≡ false
-    none place s = rw (lt-ltb (length (drop place bytes)) 20 (omega (arith, length-drop place bytes)))
-
-    more : (k next : ℕ) → at ≤ next → next + k ≡ to → ((place : ℕ) → next ≤ place → place < to → length bytes < place + 20) → Passed bytes at to next → Passed bytes at to to
-    more zero next h e short p = let z : next ≡ to = omega arith in rw z at p
-    more (suc k) next h e short p =
-        more k (next + 1) (omega arith) (omega arith) (λ place a b. short place (omega arith) b)
-        (one-passed bytes at to next h (omega arith) l (none next (short next (omega arith) (omega arith))) p)
+pub no-room : (bytes : List ℕ) → length bytes < 20 → stands bytes ≡ false
+no-room bytes h = rw (lt-ltb (length bytes) 20 h)
 
 -- WHAT THE MOVES LIST AND LEAVE
 

@@ -1,10 +1,10 @@
 // Document 02, L14: the scan of a damaged trace: where the next record stands, where the scan stands, and the entries that it lists.
 ghost use mathlib.Core.Path.{_≡_};
-ghost use Prim.Native.Nat.{_+_, _<_, _≤_, _^_};
+ghost use Prim.Native.Nat.{ℕ, _+_, _<_, _≤_, _^_};
 ghost use lib.ListN.{length};
 ghost use Rattle.model.specs.Trace.{nextNumber};
 ghost use Rattle.model.specs.Rescue.{keptAt, skipped};
-ghost use Rattle.scan.specs.Bridge.{entryAs, placeAs, Whole, Ahead};
+ghost use Rattle.scan.specs.Bridge.{entryAs, placeAs, Whole, FirstOf, Ahead};
 
 // "Kept records and skipped ranges", each with its place; a kept record with its number, a range with its length.
 pub enum Entry {
@@ -24,20 +24,29 @@ fn whole_places(size: usize, to: usize) -> usize
     if whole < to { whole } else { to }
 }
 
-// The first place from `at` on, and before `to`, where a record stands; `to` where there is none.
-pub fn next_record(bytes: &[u8], at: usize, to: usize) -> usize
-    requires { ⌜ (at ≤ to) × (to ≤ length (now bytes)) ⌝ }
-    ensures { λ r. ⌜ Ahead (now (bytes .entry)) at to r ⌝ }
+// The first of so many places where a record stands; their number where there is none.
+fn first_record(bytes: &[u8], places: usize) -> usize
+    requires { ⌜ ((place : ℕ) → place < places → place + 20 ≤ length (now bytes)) ⌝ }
+    ensures { λ r. ⌜ FirstOf (now (bytes .entry)) places r ⌝ }
 {
-    let whole = whole_places(bytes.len(), to);
-    let mut place = at;
-    while place < whole {
+    let mut place = 0;
+    while place < places {
         if trace::stands(bytes, place) {
             return place;
         }
         place += 1;
     }
-    to
+    places
+}
+
+// The first place from `at` on, and before `to`, where a record stands; `to` where there is none.
+pub fn next_record(bytes: &[u8], at: usize, to: usize) -> usize
+    requires { ⌜ (at ≤ to) × (to ≤ length (now bytes)) ⌝ }
+    ensures { λ r. ⌜ Ahead (now (bytes .entry)) at to r ⌝ }
+{
+    let whole = whole_places(bytes.len() - at, to - at);
+    let place = first_record(&bytes[at..], whole);
+    if place < whole { at + place } else { to }
 }
 
 // Where a scan stands: `run` bytes behind `from`, where the last kept record ended; and the number that is expected next.
