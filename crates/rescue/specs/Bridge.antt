@@ -1,7 +1,7 @@
 -- What contracts of rescue cite: what is found and answered, as the model's; how far a list is filled; and a trace half scanned.
 use mathlib.Core.Path.{_≡_}
 use mathlib.Core.List.{List, _++_}
-use Prim.Native.Nat.{ℕ, _*_, _/_}
+use Prim.Native.Nat.{ℕ, _+_, _*_, _/_, _≤_}
 use lib.ListN.{length, take, drop}
 use lib.Dec.{ltb}
 use Rattle.model.specs.Rescue as model
@@ -32,6 +32,11 @@ pub record Holds (before : List ℕ) (es : List Entry) (f : Filled) (now : List 
   pub count : f .count ≡ length (fitting before es)
   pub over : f .over ≡ ltb (length before / 3) (length es)
   pub list : now ≡ numbersOf (fitting before es) ++ drop (3 * length (fitting before es)) before
+
+-- It stands in the trace, and its place there is the one that the scan knows.
+pub record Stands (trace : List ℕ) (s : Standing) : Type 0 where
+  pub within : s .at ≤ length trace
+  pub place : s .place .from + s .place .run ≡ s .at
 
 -- Some entries were listed, and those of the bytes from `at` on are still to come.
 pub record Half (trace before : List ℕ) (s : Standing) (now : List ℕ) : Type 0 where

@@ -6,7 +6,7 @@ ghost use lib.ListN.{length};
 ghost use lib.Seq.{sets};
 ghost use Rattle.model.specs.Rescue.{range, entryNumbers, entryAt, rescue};
 ghost use Rattle.scan.specs.Bridge.{entryAs, placeAs};
-ghost use Rattle.rescue.specs.Bridge.{foundAs, rescuedAs, Holds, Half};
+ghost use Rattle.rescue.specs.Bridge.{foundAs, rescuedAs, Holds, Stands, Half};
 ghost use Rattle.model.specs.Rescue as model;
 use scan::Entry;
 use scan::Place;
@@ -119,9 +119,9 @@ struct Standing {
 
 // Goes on to the next record, and lists what was skipped before it, and the record; or to the end.
 fn list_next(trace: &[u8], list: &mut [u64], s: Standing) -> Standing
-    requires { ⌜ (s .at < length (now trace)) × (s .place .from + s .place .run ≡ s .at) ⌝ }
+    requires { ⌜ Stands (now trace) s × (s .at < length (now trace)) ⌝ }
     requires { ⌜ s .filled .count ≤ length (now list) / 3 ⌝ }
-    ensures { λ r. ⌜ (s .at < r .at) × (r .at ≤ length (now (trace .entry))) × (r .place .from + r .place .run ≡ r .at) ⌝ }
+    ensures { λ r. ⌜ Stands (now (trace .entry)) r × (s .at < r .at) ⌝ }
     ensures { λ r. ⌜ ((before : List ℕ) → Half (now (trace .entry)) before s (now (list .entry)) → Half (now (trace .entry)) before r (now (list .exit))) ⌝ }
     ensures { λ r. ⌜ r .filled .count ≤ length (now (list .entry)) / 3 ⌝ }
 {

@@ -1,7 +1,7 @@
 -- What contracts of rescue_chunk cite: what moves write in each of the two outputs, and what they list and leave; and a chunk, half scanned and whole.
 use mathlib.Core.Path.{_≡_}
 use mathlib.Core.List.{List, [], _++_}
-use Prim.Native.Nat.{ℕ, _+_, _≤_}
+use Prim.Native.Nat.{ℕ, _+_, _*_, _<_, _≤_}
 use lib.ListN.{length, drop}
 use Rattle.model.specs.Trace.{recordBytes, numberAfter, numberAt, accessAt}
 use Rattle.model.specs.Convert.{traceForm, written}
@@ -55,6 +55,13 @@ pub record Wrote (output : Output) (ms : List Move) (s : Rescued) (before : List
   pub place : placeAs (r .place) ≡ after (placeAs (s .place)) ms
   pub tally : tallyAs (r .tally) ≡ told.tally (tallyAs (s .tally)) (listed (placeAs (s .place)) ms)
   pub at : r .at ≡ s .at + sizes ms
+
+-- How far a step goes: the place moves on with the bytes that are passed, and each of them adds at most six to the output.
+pub record Further (s r : Rescued) : Type 0 where
+  pub at : s .at < r .at
+  pub end : r .end + 6 * s .at ≤ s .end + 6 * r .at
+  pub place : r .place .from + r .place .run + s .at ≡ s .place .from + s .place .run + r .at
+  pub small : Small (r .place) (r .tally)
 
 -- A CHUNK, from its first standing
 

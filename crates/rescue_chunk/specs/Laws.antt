@@ -191,6 +191,10 @@ record-wrote output bytes {s} {number} n c ranges keeps place t a =
       at = a;
     }
 
+pub record-size : (bytes : List ℕ) → sizes (kept-first bytes ∷ []) ≡ 20
+unfolding sizes
+record-size bytes = refl
+
 -- A CHUNK
 
 module _ {output : Output} {least : ℕ} {first s : Rescued} {input before now : List ℕ} (h : Half output least first input before s now) where

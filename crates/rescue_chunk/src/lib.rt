@@ -9,7 +9,7 @@ ghost use Rattle.model.specs.ScanLaws.{kept-first};
 ghost use Rattle.decimal.specs.Bridge.{Written};
 ghost use Rattle.scan.specs.Bridge.{placeAs};
 ghost use Rattle.entry_text.specs.Bridge.{tallyAs};
-ghost use Rattle.rescue_chunk.specs.Bridge.{rangeText, keptText, lastText, Small, Wrote, Half, ChunkRescued};
+ghost use Rattle.rescue_chunk.specs.Bridge.{rangeText, keptText, lastText, Small, Wrote, Further, Half, ChunkRescued};
 use entry_text::Tally;
 use scan::Place;
 
@@ -92,7 +92,7 @@ fn write_found(output: Output, bytes: &[u8], out: &mut [u8], s: Rescued) -> Resc
     requires { ⌜ Small (s .place) (s .tally) ⌝ }
     requires { ⌜ s .end + 102 ≤ length (now out) ⌝ }
     ensures { λ r. ⌜ Wrote output (kept-first (now (bytes .entry)) ∷ []) s (now (out .entry)) r (now (out .exit)) ⌝ }
-    ensures { λ r. ⌜ (r .at ≡ s .at + 20) × (r .end ≤ s .end + 102) × Small (r .place) (r .tally) × (r .place .from + r .place .run ≡ s .place .from + s .place .run + 20) ⌝ }
+    ensures { λ r. ⌜ Further s r ⌝ }
 {
     let place = s.place;
     let before = s.tally;
@@ -128,7 +128,7 @@ fn write_next(output: Output, input: &[u8], to: usize, out: &mut [u8], s: Rescue
     requires { ⌜ Small (s .place) (s .tally) ⌝ }
     requires { ⌜ s .end + 102 ≤ length (now out) ⌝ }
     ensures { λ r. ⌜ ((least : ℕ) (first : Rescued) (before : List ℕ) → to + least ≤ length (now (input .entry)) + 1 → Half output least first (now (input .entry)) before s (now (out .entry)) → Half output least first (now (input .entry)) before r (now (out .exit))) ⌝ }
-    ensures { λ r. ⌜ (s .at < r .at) × (r .at ≤ length (now (input .entry))) × (r .end + 6 * s .at ≤ s .end + 6 * r .at) × Small (r .place) (r .tally) × (r .place .from + r .place .run + s .at ≡ s .place .from + s .place .run + r .at) ⌝ }
+    ensures { λ r. ⌜ Further s r × (r .at ≤ length (now (input .entry))) ⌝ }
 {
     let next = scan::next_record(input, s.at, to);
     let place = s.place.skip(next - s.at);

@@ -21,12 +21,12 @@ ahead c = c .before .before .before .next-record .ensures
 
 -- where the scan stands then: as far behind
 place : (c : tie.After-skip) → c .skip .result .from + c .skip .result .run ≡ c .before .before .before .next-record .result
-place c = rw (c .skip .ensures) (omega (arith, start c .pre, ahead c .within))
+place c = rw (c .skip .ensures) (omega (arith, start c .pre .0 .0 .place, ahead c .within))
 
 returns : tie.Need-returns
 returns c =
     let k = c .before in
-    ((omega (arith, start k .pre), omega arith, place k), ((λ before h. half-skipped (ahead k) h (rw (k .skip .ensures)) refl refl), search needs))
+    ((record { within = omega arith; place = place k }, omega (arith, start k .pre .0 .1)), ((λ before h. half-skipped (ahead k) h (rw (k .skip .ensures)) refl refl), search needs))
 
 -- a record stands there, and lies in the trace
 there : (c : tie.Else1) → c .before .before .before .before .next-record .result < length (now (start (c .before) .args .trace))
@@ -65,7 +65,7 @@ returns-2 c =
     let k = e .before in
     let next = k .before .before .before .next-record .result in
     let told = rw (from-place (now (start k .args .trace)) next) at (number .record-number .ensures) in (
-      (omega (arith, ahead k .within), inside e, rw (c .keep .ensures) (omega (arith, place k))),
+      (record { within = inside e; place = rw (c .keep .ensures) (omega (arith, place k)) }, omega (arith, ahead k .within)),
       (
         (λ before h. half-listed (ahead k) h (there e) told (rw (c .keep .ensures, k .skip .ensures)) refl (rw (k .skip .ensures) at (range .store-range .ensures .0)) (rw (k .skip .ensures) at (store .before .kept .ensures)) (store .store .ensures .0)),
         omega (arith, store .store .ensures .1, store .before .before .before .before .list .given),

@@ -44,7 +44,7 @@ abbrev turn : (c : tie.After-slice-known2 Inv-loop μ-loop) → tie.After-write-
 turn c = c .before .before
 
 loop-less : tie.Need-loop-less Inv-loop μ-loop
-loop-less c = omega (arith, turn c .write-next .ensures .1)
+loop-less c = let e = turn c .write-next .ensures .1 in omega (arith, e .0 .at, e .1)
 
 loop-again : tie.Need-loop-again Inv-loop μ-loop
 loop-again c =
@@ -53,7 +53,8 @@ loop-again c =
     let a = start l .args in
     let e = t .write-next .ensures in
     let to = l .before .places .ensures in
-    (omega (arith, c .before .out .given, l .loop .inv .0), e .1 .1, omega (arith, e .1 .2, l .loop .inv .2), e .1 .3, omega (arith, e .1 .4, l .loop .inv .4), e .0 (a .least) (atFirst (a .place) (a .tally)) (now (a .out)) (omega (arith, to, start l .pre .0)) (l .loop .inv .5))
+    let f = e .1 .0 in
+    (omega (arith, c .before .out .given, l .loop .inv .0), e .1 .1, omega (arith, f .end, l .loop .inv .2), f .small, omega (arith, f .place, l .loop .inv .4), e .0 (a .least) (atFirst (a .place) (a .tally)) (now (a .out)) (omega (arith, to, start l .pre .0)) (l .loop .inv .5))
 
 returns : tie.Need-returns Inv-loop μ-loop
 returns c =

@@ -43,12 +43,12 @@ returns c =
     let s = start r .args .s in
     let tally = rw (told .kept .ensures) at (counted .with .ensures) in (
       record-wrote (start r .args .output) (now (start r .args .bytes)) (number .ensures) (ap (λ (t : Tally). t .kept) (r .tally-range .ensures)) (ranges .write-range .ensures .0) (keeps .write-kept .ensures .0) (rw (end .keep .ensures)) (rw (r .tally-range .ensures) at tally) refl,
-      (
-        refl,
-        omega (arith, ranges .write-range .ensures .1, keeps .write-kept .ensures .1),
-        small-behind (s .place) (s .tally) (r .tally-range .result) (r .tally-range .ensures) (number .result) (start r .pre .1 .1 .0) tally (ap (λ (p : Place). p .from) (end .keep .ensures)),
-        rw (end .keep .ensures) (omega arith),
-      ),
+      record {
+        at = omega arith;
+        end = omega (arith, ranges .write-range .ensures .1, keeps .write-kept .ensures .1);
+        place = rw (end .keep .ensures) (omega arith);
+        small = small-behind (s .place) (s .tally) (r .tally-range .result) (r .tally-range .ensures) (number .result) (start r .pre .1 .1 .0) tally (ap (λ (p : Place). p .from) (end .keep .ensures));
+      },
     )
 
 pub write-found-spec : {M : Type 1} → statement M

@@ -1,8 +1,8 @@
 -- By whether a record stands ahead: the bytes up to it write nothing, and then it is written.
-use mathlib.Core.Path.{_≡_, refl, ap}
-use Prim.Native.Nat.{_+_, _-_, _≤_, _<_, _^_}
+use mathlib.Core.Path.{_≡_, refl, ap, _∙_}
+use Prim.Native.Nat.{ℕ, _+_, _-_, _≤_, _<_, _^_}
 use native.Mathlib.Omega.{arith}
-use lib.ListN.{length, length-drop}
+use lib.ListN.{length, drop, length-drop}
 use denote.Ref.{now}
 use borrow.Author.Needs.{needs}
 use Rattle.model.specs.LaneLaws.{from-place}
@@ -10,7 +10,7 @@ use Rattle.scan.specs.declared.Place.{Place}
 use Rattle.scan.specs.Bridge.{placeAs, Ahead}
 use Rattle.scan.specs.Laws.{record-within, record-ahead}
 use Rattle.rescue_chunk.specs.Bridge.{Small}
-use Rattle.rescue_chunk.specs.Laws.{half-more, wrote-then, skips-wrote}
+use Rattle.rescue_chunk.specs.Laws.{record-size, half-more, wrote-then, skips-wrote}
 use Rattle.rescue_chunk.proofs.write_next.Statement.{statement}
 use Rattle.rescue_chunk.proofs.write_next.Tie as tie
 
@@ -41,7 +41,7 @@ returns c =
     let a = start k .args in
     let w = ahead k .within in (
       (λ least first before g h. half-more h (ahead k .passed least g) (skips-wrote (a .output) (now (a .out)) (k .before .before .next-record .result - a .s .at) (ap placeAs (k .skip .ensures)) refl refl (omega (arith, w)))),
-      (omega (arith, start k .pre .0), omega (arith, start k .pre .0), omega (arith, w), small k, place k),
+      (record { at = omega (arith, start k .pre .0); end = omega (arith, w); place = place k; small = small k }, omega (arith, start k .pre .0)),
     )
 
 -- a record stands there, and lies in the input
@@ -71,9 +71,13 @@ returns-2 c =
     let next = k .before .before .next-record .result in
     let w = ahead k .within in
     let wrote = rw (from-place (now (a .input)) next) at (f .write-found .ensures .0) in
-    let then = f .write-found .ensures .1 in (
-      (λ least first before g h. half-more h (rw (then .0) (record-ahead (ahead k) least g (there e))) (wrote-then (skips-wrote (a .output) (now (a .out)) (next - a .s .at) (ap placeAs (k .skip .ensures)) refl refl (omega (arith, w))) wrote)),
-      (omega (arith, w, then .0), omega (arith, inside e, then .0), omega (arith, then .0, then .1, w), then .2, omega (arith, then .0, then .3, place k)),
+    let goes = f .write-found .ensures .1 in
+    let at : f .write-found .result .at ≡ next + 20 = wrote .at ∙ ap (λ (n : ℕ). next + n) (record-size (drop next (now (a .input)))) in (
+      (λ least first before g h. half-more h (rw at (record-ahead (ahead k) least g (there e))) (wrote-then (skips-wrote (a .output) (now (a .out)) (next - a .s .at) (ap placeAs (k .skip .ensures)) refl refl (omega (arith, w))) wrote)),
+      (
+        record { at = omega (arith, w); end = omega (arith, goes .end, w); place = omega (arith, goes .place, place k); small = goes .small },
+        omega (arith, inside e),
+      ),
     )
 
 pub write-next-spec : {M : Type 1} → statement M
