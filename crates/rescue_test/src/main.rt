@@ -13,12 +13,6 @@ use rescue_chunk::Rescued;
 use scan::Place;
 use testing::show;
 
-fn output_buffer() -> [u8; 393222]
-    ensures { λ r. ⌜ length r ≡ 393222 ⌝ }
-{
-    [0; 393222]
-}
-
 // INTO A LENT LIST
 
 // What the list holds before.
@@ -266,6 +260,6 @@ fn rescue_all(input: &mut [u8], out: &mut [u8])
 
 fn main() {
     let mut input = stream::input_buffer();
-    let mut out = output_buffer();
+    let mut out = rescue_buffer::output_buffer();
     rescue_all(&mut input, &mut out);
 }

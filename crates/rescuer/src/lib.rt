@@ -18,13 +18,6 @@ const CHUNKS: u64 = 281474976710656;
 // A record looks at 20 bytes.
 const LONGEST: usize = 20;
 
-// A record of 20 bytes has at most two lines, of 51 bytes each.
-fn output_buffer() -> [u8; 393222]
-    ensures { λ r. ⌜ length r ≡ 393222 ⌝ }
-{
-    [0; 393222]
-}
-
 // How a chunk went: what was read of it, where its rescue stands, whether the output was lost in a write that failed, the records to be told of where
 // something failed, and whether more is to be read.
 struct Turn {
@@ -150,7 +143,7 @@ fn finish(output: Output, turn: Turn, out: &mut [u8])
 
 pub fn run(output: Output) {
     let mut input = stream::input_buffer();
-    let mut out = output_buffer();
+    let mut out = rescue_buffer::output_buffer();
     let turn = rescue_input(output, &mut input, &mut out);
     finish(output, turn, &mut out);
 }
