@@ -23,3 +23,17 @@ pub fn store(number: u32, text: &mut [u8]) -> usize {
         }
     }
 }
+
+/// The same of a number of 64 bits.
+pub fn store_long(number: u64, text: &mut [u8]) -> usize {
+    let mut start = text.len();
+    let mut left = number;
+    loop {
+        if let Ok(left) = u32::try_from(left) {
+            return store(left, &mut text[..start]);
+        }
+        start -= 1;
+        text[start] = b'0' + (left % 10) as u8;
+        left /= 10;
+    }
+}

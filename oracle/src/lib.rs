@@ -20,6 +20,7 @@ mod programs;
 pub mod refusal;
 pub mod registers;
 pub mod replay;
+pub mod rescue;
 pub mod rng;
 mod seeds;
 pub mod settings;

@@ -1,19 +1,21 @@
 //! Writes the files that are compared with, checks that the stored ones are what it would write,
-//! replays a trace, turns a text list into a trace or back, writes a trace or a list, or performs
-//! the bursts of the bench.
+//! replays a trace, turns a text list into a trace or back, rescues a damaged trace, writes a trace,
+//! a list or a damaged trace, or performs the bursts of the bench.
 
 use std::io::{self, Write};
 use std::path::Path;
 use std::process::ExitCode;
 
 use oracle::bursts::workload;
+use oracle::rescue::{self, damage};
 use oracle::{convert, long_list, long_trace, replay, stored, FEWEST_RECORDS};
 
 /// Where the crates stand, seen from this one.
 const CRATES: &str = concat!(env!("CARGO_MANIFEST_DIR"), "/../crates");
 
 const USAGE: &str = "usage: oracle write | check | replay < trace | to-trace < list \
-                     | to-text < trace | trace RECORDS | list RECORDS | bursts ROUNDS";
+                     | to-text < trace | rescue < trace | rescue-trace < trace | trace RECORDS \
+                     | list RECORDS | damaged RECORDS | bursts ROUNDS";
 
 fn main() -> ExitCode {
     let words: Vec<String> = std::env::args().skip(1).collect();
@@ -37,6 +39,8 @@ fn run(words: &[&str]) -> Result<(), String> {
         ["replay"] => replay::replay(input, output).map_err(text)?,
         ["to-trace"] => drop(convert::to_trace(input, output).map_err(text)?),
         ["to-text"] => drop(convert::to_text(input, output).map_err(text)?),
+        ["rescue"] => drop(rescue::lines(input, output).map_err(text)?),
+        ["rescue-trace"] => drop(rescue::traced(input, output).map_err(text)?),
         ["trace", records] => {
             let trace = long_trace(number(records)?);
             output.write_all(&trace).map_err(text)?;
@@ -44,6 +48,11 @@ fn run(words: &[&str]) -> Result<(), String> {
         ["list", records] => {
             let list = long_list(number(records)?);
             output.write_all(&list).map_err(text)?;
+        }
+        ["damaged", records] => {
+            let parsed = records.parse();
+            let records = parsed.map_err(|_| format!("{records}: not a number of records"))?;
+            output.write_all(&damage::long(records)).map_err(text)?;
         }
         ["bursts", rounds] => {
             let parsed = rounds.parse();

@@ -50,7 +50,7 @@ pub fn check(crates: &Path) -> Result<String, String> {
             return Err(format!("{path}: not what this program writes"));
         }
     }
-    if let Some(path) = lessons::without_trace() {
+    if let Some(path) = lessons::without_trace(&files) {
         return Err(format!("{path}: has no trace beside it"));
     }
     let stale = stale(crates, &files).map_err(|error| error.to_string())?;

@@ -5,7 +5,7 @@ use crate::access::Access;
 /// The bytes of a record.
 pub const RECORD_LENGTH: usize = 20;
 /// "the two-byte mark 0x42 0x50"
-const MARK: [u8; 2] = [0x42, 0x50];
+pub const MARK: [u8; 2] = [0x42, 0x50];
 
 /// What the trace reader refuses, and the writer.
 pub mod refused {
@@ -43,6 +43,13 @@ pub fn read(bytes: &[u8], expected: u16) -> Result<Access, u8> {
     })
 }
 
+/// Whether "a whole record with mark and zero byte stands" at the front. Its number, kind and side
+/// are not looked at.
+pub fn stands(bytes: &[u8]) -> bool {
+    let record = bytes.first_chunk::<RECORD_LENGTH>();
+    record.is_some_and(|record| [record[0], record[1]] == MARK && record[7] == 0)
+}
+
 /// "after 65,535 the record number starts again at 0"
 pub fn next_number(number: u16) -> u16 {
     number.wrapping_add(1)
@@ -59,6 +66,13 @@ pub fn record(number: u16, access: &Access) -> [u8; RECORD_LENGTH] {
     record
 }
 
+/// A record with another number.
+pub fn renumbered(number: u16, record: &[u8; RECORD_LENGTH]) -> [u8; RECORD_LENGTH] {
+    let mut record = *record;
+    record[2..4].copy_from_slice(&number.to_le_bytes());
+    record
+}
+
 /// "given an access and the expected record number it stores 20 bytes at the start of a lent buffer
 /// and answers the next number." "24, fewer than 20 bytes of room, nothing stored"
 pub fn write(number: u16, access: &Access, buffer: &mut [u8]) -> Result<u16, u8> {
@@ -71,7 +85,12 @@ pub fn write(number: u16, access: &Access, buffer: &mut [u8]) -> Result<u16, u8>
 
 /// The trace of a list of accesses. "Numbers start at 0."
 pub fn trace<'a>(accesses: impl IntoIterator<Item = &'a Access>) -> Vec<u8> {
-    let mut number = 0;
+    numbered(0, accesses)
+}
+
+/// The records of a list of accesses, numbered from this number on.
+pub fn numbered<'a>(first: u16, accesses: impl IntoIterator<Item = &'a Access>) -> Vec<u8> {
+    let mut number = first;
     let mut trace = Vec::new();
     for access in accesses {
         trace.extend(record(number, access));

@@ -20,7 +20,8 @@ const TOOLS: [&str; 16] = [
 ];
 
 const CRATES: &str = "# the crates\nbase:\nother: base\nmiddle: base io\n\
-                      replay: middle base io\nto_trace: base middle io\n";
+                      replay: middle base io\nto_trace: base middle io\n\
+                      rescue_list: middle io\nrescue_trace: middle base io\n";
 
 /// Links a program where it finds no stamp, as `rt` does.
 const RT: &str = r#"#!/bin/sh
@@ -59,8 +60,7 @@ impl Repository {
             _alone: ALONE.lock().unwrap_or_else(PoisonError::into_inner),
         };
         for name in ["launch", "replay", "to-trace"] {
-            let from = PathBuf::from(ROOT).join(name);
-            fs::copy(from, repository.path(name)).expect("a file of the launcher");
+            repository.copy(name);
         }
         for folder in ["crates", "tools"] {
             fs::create_dir(repository.path(folder)).expect("a new folder");
@@ -83,6 +83,24 @@ impl Repository {
 
     fn path(&self, name: &str) -> PathBuf {
         self.folder.path().join(name)
+    }
+
+    fn copy(&self, name: &str) {
+        let from = PathBuf::from(ROOT).join(name);
+        fs::copy(from, self.path(name)).expect("a file of the launcher");
+    }
+
+    fn with_rescue() -> Repository {
+        let repository = Repository::with_rt(RT);
+        repository.copy("rescue");
+        repository
+    }
+
+    /// The launcher of two programs, of which an option chooses one.
+    fn rescue(&self, words: &[&str]) -> Command {
+        let mut rescue = self.command(self.path("rescue"));
+        rescue.args(words);
+        rescue
     }
 
     fn command(&self, program: impl AsRef<Path>) -> Command {
@@ -171,6 +189,50 @@ fn a_dash_in_a_name_is_an_underscore_in_its_crate() {
         fed(to_trace, INPUT).is(INPUT, told, 0);
     }
     assert_eq!(repository.calls(), "check to_trace\n");
+}
+
+#[test]
+fn an_option_chooses_the_crate() {
+    let repository = Repository::with_rescue();
+    let file = repository.folder.file("a capture.bin", INPUT);
+    let file = file.to_str().expect("a name of letters");
+    for (options, chosen) in [(&[][..], "rescue_list"), (&["-t"], "rescue_trace")] {
+        let told = format!("{BUILDING}{BUILT}").replace("replay: ", "rescue: ");
+        let told = told.replace("proved: replay", &format!("proved: {chosen}"));
+        for told in [&told, ""] {
+            fed(repository.rescue(options), INPUT).is(INPUT, told, 0);
+        }
+        let words = [options, &[file]].concat();
+        is_run(&run(repository.rescue(&words)));
+    }
+    assert_eq!(
+        repository.calls(),
+        "check rescue_list\ncheck rescue_trace\n"
+    );
+}
+
+#[test]
+fn a_wrong_option_gets_the_usage_and_nothing_is_built() {
+    let repository = Repository::with_rescue();
+    let help = run(repository.rescue(&["--help"])).out;
+    assert!(help.starts_with(b"usage: ./rescue ") && help.ends_with(b"\n"));
+    let usage = String::from_utf8(help).expect("the usage is a text");
+    for words in [
+        &["-x"][..],
+        &["--x"],
+        &["-t", "-x"],
+        &["-t", "-t"],
+        &["-t", "one", "two"],
+        &["one", "-t"],
+        &["one", "two"],
+    ] {
+        run(repository.rescue(words)).is(b"", &usage, 2);
+    }
+    let told = "rescue: missing: there is no such file, or it cannot be read\n";
+    for words in [&["missing"][..], &["-t", "missing"]] {
+        run(repository.rescue(words)).is(b"", told, 1);
+    }
+    assert_eq!(repository.calls(), "");
 }
 
 #[test]

@@ -1,15 +1,23 @@
 //! The tables of docs/LESSONS.md are the files of the lessons: the first column is the list of the
 //! trace, the last one what the replay writes of it. Register accesses and bursts are in no trace: a
-//! table of them is the stored list of that lesson. The picture of the bays has each index and label
+//! table of them is the stored list of that lesson. Of a damaged trace the lines of its rescue are
+//! shown. The picture of the bays has each index and label
 //! at its row and column, that of the lanes each phase's bytes.
 
 mod files;
+mod shown;
 
-use std::path::Path;
+use std::collections::BTreeSet;
+use std::fs;
+use std::ops::RangeInclusive;
+use std::path::{Path, PathBuf};
 
 use files::{entries, stem, text, ROOT};
 use oracle::call::{Call, Given};
+use oracle::replay;
+use oracle::rescue::{lines_of, trace_of};
 use oracle::{bays, narrow_bus, pins, zero_in_registers};
+use shown::examples;
 
 /// How the header of a table begins.
 const ACCESSES: &str = "| kind side S A B C |";
@@ -61,27 +69,140 @@ fn lines(column: &[String]) -> String {
     column.iter().map(|line| format!("{line}\n")).collect()
 }
 
+/// The names of the traces, in order: the undamaged ones, which have a list, and the damaged ones.
+fn traces() -> (Vec<String>, Vec<String>) {
+    let files = entries(&Path::new(ROOT).join("lessons")).into_iter();
+    let traces = files.filter(|path| path.extension().is_some_and(|end| end == "bin"));
+    let (sound, damaged): (Vec<_>, Vec<_>) =
+        traces.partition(|path| path.with_extension("list").exists());
+    let names = |paths: Vec<_>| paths.iter().map(|path: &PathBuf| stem(path)).collect();
+    (names(sound), names(damaged))
+}
+
+fn trace(name: &str) -> Vec<u8> {
+    let path = Path::new(ROOT).join(format!("lessons/{name}.bin"));
+    fs::read(path).expect("a lesson's trace")
+}
+
 #[test]
 fn the_tables_are_the_lists_and_the_answers() {
     let root = Path::new(ROOT);
     let document = text(&root.join("docs/LESSONS.md"));
-    let (names, tables, ends) = (
+    let (mut names, tables, ends) = (
         names(&document),
         tables(&document, ACCESSES),
         ends(&document),
     );
-    let files = entries(&root.join("lessons")).into_iter();
-    let traces = files.filter(|path| path.extension().is_some_and(|end| end == "bin"));
-    let traces: Vec<String> = traces.map(|path| stem(&path)).collect();
+    let (sound, damaged) = traces();
+    let is_damaged = |name: &str| damaged.iter().any(|damaged| damaged == name);
+    let named: BTreeSet<&str> = names
+        .iter()
+        .copied()
+        .filter(|name| is_damaged(name))
+        .collect();
+    assert!(named.iter().eq(&damaged));
+    names.retain(|name| !is_damaged(name));
     let mut sorted = names.clone();
     sorted.sort();
-    assert_eq!(sorted, traces);
+    assert_eq!(sorted, sound);
     assert_eq!(names.len(), tables.len());
     assert_eq!(names.len(), ends.len());
     for ((name, (list, answers)), end) in names.into_iter().zip(tables).zip(ends) {
         let file = |end| text(&root.join(format!("lessons/{name}.{end}")));
         assert_eq!(lines(&list), file("list"), "{name}");
         assert_eq!(lines(&answers) + end + "\n", file("txt"), "{name}");
+    }
+}
+
+/// The lines of a rescue are shown below its command, as the README does it; and where the replay of
+/// what is rescued is shown, that is right too.
+#[test]
+fn the_lines_of_each_rescue_are_shown() {
+    let root = Path::new(ROOT);
+    let document = text(&root.join("docs/LESSONS.md"));
+    let examples = examples(&document);
+    for name in traces().1 {
+        let file = |end| text(&root.join(format!("lessons/{name}.{end}")));
+        let rescue = format!("./rescue lessons/{name}.bin");
+        let anew = format!("./rescue -t lessons/{name}.bin | ./replay");
+        let shown = |line: &str| examples.iter().find(|(command, _)| *command == line);
+        let (_, lines) = shown(&rescue).unwrap_or_else(|| panic!("{rescue}: not shown"));
+        assert_eq!(*lines, file("entries"), "{rescue}");
+        if let Some((_, lines)) = shown(&anew) {
+            assert_eq!(*lines, file("rescued.txt"), "{anew}");
+        }
+    }
+}
+
+/// The capture without these bytes, and what its rescue writes.
+#[track_caller]
+fn is_without(name: &str, lost: RangeInclusive<usize>, lines: &[&str]) {
+    let whole = trace("09-whole-capture");
+    let (start, end) = (*lost.start(), *lost.end());
+    let left = [&whole[..start], &whole[end + 1..]].concat();
+    assert_eq!(trace(name), left);
+    has_lines(name, lines);
+    let file = Path::new(ROOT).join(format!("lessons/{name}.rescued.txt"));
+    let rescued = replay::text(&trace_of(&left).0);
+    assert_eq!(text(&file).into_bytes(), rescued);
+}
+
+#[track_caller]
+fn has_lines(name: &str, lines: &[&str]) {
+    let file = text(&Path::new(ROOT).join(format!("lessons/{name}.entries")));
+    assert_eq!(file.lines().collect::<Vec<_>>(), lines);
+    assert_eq!(file.into_bytes(), lines_of(&trace(name)).0);
+}
+
+#[test]
+fn the_damaged_traces_have_lost_these_bytes() {
+    // 46 bytes, from record 2's second byte to record 4's seventh
+    let lines = [
+        "kept 0 0",
+        "kept 20 1",
+        "skipped 40 14",
+        "doubtful 54 5",
+        "kept 74 6",
+    ];
+    is_without(
+        "09-lost-middle",
+        41..=86,
+        &[&lines[..], &["end 4 1 14"]].concat(),
+    );
+    // the first 30
+    let lines = [
+        "doubtful 10 2",
+        "kept 30 3",
+        "kept 50 4",
+        "kept 70 5",
+        "kept 90 6",
+    ];
+    let lines = [&["skipped 0 10"], &lines[..], &["end 5 1 10"]].concat();
+    is_without("09-lost-start", 0..=29, &lines);
+    // 20, from the middle of record 1 to the middle of record 2
+    let lines = ["doubtful 40 3", "kept 60 4", "kept 80 5", "kept 100 6"];
+    let lines = [&["kept 0 0", "kept 20 1"], &lines[..], &["end 6 1 0"]].concat();
+    is_without("09-false-record", 30..=49, &lines);
+    let lines = [
+        "skipped 0 8",
+        "kept 8 0",
+        "kept 28 1",
+        "kept 48 2",
+        "skipped 68 12",
+    ];
+    has_lines("09-never-back", &[&lines[..], &["end 3 0 20"]].concat());
+}
+
+/// An undamaged trace is kept whole, nothing doubtful.
+#[test]
+fn an_undamaged_trace_is_given_back() {
+    let (sound, _) = traces();
+    assert!(sound.len() >= 10);
+    for name in sound {
+        let trace = trace(&name);
+        let (anew, counts) = trace_of(&trace);
+        assert_eq!(anew, trace, "{name}");
+        assert_eq!((counts.doubtful, counts.skipped), (0, 0), "{name}");
     }
 }
 

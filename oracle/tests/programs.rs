@@ -1,6 +1,8 @@
 //! The built programs where the world fails: nothing is lost in silence. They are started by their
 //! launcher, and what they write is held to what the independent program writes.
 
+mod rescued;
+mod shown;
 mod support;
 
 use std::ffi::{c_int, c_ulong};
@@ -17,9 +19,11 @@ use std::thread;
 use oracle::convert::{list_of, trace_of};
 use oracle::list::LONGEST_LINE;
 use oracle::replay::text;
+use oracle::rescue;
 use oracle::trace::RECORD_LENGTH;
 use oracle::{long_list, long_trace};
 
+use shown::examples;
 use support::{command, fed, run, start, Ended, Folder, ROOT};
 
 /// So much is read at a time.
@@ -118,6 +122,8 @@ impl Form {
 
 struct Program {
     name: &'static str,
+    /// What stands in front of the file.
+    options: &'static [&'static str],
     usage: &'static str,
     reads: Form,
     /// What the independent program writes of an input.
@@ -128,6 +134,7 @@ struct Program {
 
 const REPLAY: Program = Program {
     name: "replay",
+    options: &[],
     usage: "usage: ./replay capture.bin, or ./replay < capture.bin\n",
     reads: Form::Trace,
     writes: text,
@@ -136,6 +143,7 @@ const REPLAY: Program = Program {
 
 const TO_TRACE: Program = Program {
     name: "to-trace",
+    options: &[],
     usage: "usage: ./to-trace list.txt > capture.bin, or ./to-trace < list.txt > capture.bin\n",
     reads: Form::List,
     writes: |list| trace_of(list).0,
@@ -144,13 +152,34 @@ const TO_TRACE: Program = Program {
 
 const TO_TEXT: Program = Program {
     name: "to-text",
+    options: &[],
     usage: "usage: ./to-text capture.bin > list.txt, or ./to-text < capture.bin > list.txt\n",
     reads: Form::Trace,
     writes: |trace| list_of(trace).0,
     end: |_| String::new(),
 };
 
+const RESCUE: Program = Program {
+    name: "rescue",
+    options: &[],
+    usage: "usage: ./rescue [-t] damaged.bin, or ./rescue [-t] < damaged.bin\n",
+    reads: Form::Trace,
+    writes: |trace| rescue::lines_of(trace).0,
+    // of an undamaged trace
+    end: |count| format!("end {count} 0 0\n"),
+};
+
+const RESCUE_TRACE: Program = Program {
+    options: &["-t"],
+    writes: |trace| rescue::trace_of(trace).0,
+    end: |_| String::new(),
+    ..RESCUE
+};
+
+/// Those that stop at a refusal.
 const PROGRAMS: [Program; 3] = [REPLAY, TO_TRACE, TO_TEXT];
+
+const ALL: [Program; 5] = [REPLAY, TO_TRACE, TO_TEXT, RESCUE, RESCUE_TRACE];
 
 impl Program {
     fn launcher(&self) -> PathBuf {
@@ -158,7 +187,9 @@ impl Program {
     }
 
     fn command(&self) -> Command {
-        command(self.launcher())
+        let mut command = command(self.launcher());
+        command.args(self.options);
+        command
     }
 
     fn of(&self, file: impl AsRef<Path>) -> Command {
@@ -173,10 +204,15 @@ impl Program {
         command
     }
 
-    /// A line of the shell in which `$0` is the launcher.
+    /// A line of the shell in which `"$0"` is the launcher, with the options behind it.
     fn shell(&self, line: &str) -> Command {
+        let mut launcher = "\"$0\"".to_string();
+        for option in self.options {
+            launcher += &format!(" {option}");
+        }
+        let line = line.replace("\"$0\"", &launcher);
         let mut shell = command("bash");
-        shell.args(["-c", line]).arg(self.launcher());
+        shell.args(["-c", &line]).arg(self.launcher());
         shell
     }
 
@@ -325,7 +361,13 @@ fn unread() -> Stdio {
 #[test]
 #[ignore = "runs the built programs: .ci/run calls it behind rt ci"]
 fn empty_input_is_no_failure() {
-    for (program, out) in [(REPLAY, "end 0\n"), (TO_TRACE, ""), (TO_TEXT, "")] {
+    for (program, out) in [
+        (REPLAY, "end 0\n"),
+        (TO_TRACE, ""),
+        (TO_TEXT, ""),
+        (RESCUE, "end 0 0 0\n"),
+        (RESCUE_TRACE, ""),
+    ] {
         fed(program.command(), b"").is(out.as_bytes(), "", 0);
     }
 }
@@ -436,7 +478,7 @@ fn lines_of(bytes: usize) -> Vec<u8> {
 #[test]
 #[ignore = "runs the built programs: .ci/run calls it behind rt ci"]
 fn an_input_may_have_many_chunks() {
-    for program in PROGRAMS {
+    for program in ALL {
         for count in [MANY, MANY - 1] {
             let input = program.reads.first(count);
             program.is_right(&fed(program.command(), input), input);
@@ -447,7 +489,7 @@ fn an_input_may_have_many_chunks() {
 #[test]
 #[ignore = "runs the built programs: .ci/run calls it behind rt ci"]
 fn a_pipe_may_give_any_number_of_bytes_at_a_time() {
-    for program in PROGRAMS {
+    for program in ALL {
         for piece in [1, 7, 19, 20, 21, 4093] {
             for bytes in [CHUNK_BYTES + 60, 47] {
                 let input = &program.reads.long()[..bytes];
@@ -488,8 +530,9 @@ fn a_trace_and_its_list_give_each_other() {
     let lessons = fs::read_dir(root.join("lessons")).expect("the lessons");
     let mut count = 0;
     for path in lessons.flatten().map(|entry| entry.path()) {
-        if path.extension().is_some_and(|end| end == "bin") {
-            give_each_other(&read(&path), &read(&path.with_extension("list")));
+        // a damaged trace has no list
+        if path.extension().is_some_and(|end| end == "list") {
+            give_each_other(&read(&path.with_extension("bin")), &read(&path));
             count += 1;
         }
     }
@@ -516,7 +559,7 @@ fn a_refused_output_is_refused_by_the_other() {
 #[test]
 #[ignore = "runs the built programs: .ci/run calls it behind rt ci"]
 fn a_full_output_is_told() {
-    for program in PROGRAMS {
+    for program in ALL {
         for count in [0, 1, CHUNK, 2 * CHUNK] {
             let input = program.reads.first(count);
             let ended = fed(program.to(full()), input);
@@ -532,7 +575,7 @@ fn a_full_output_is_told() {
 #[test]
 #[ignore = "runs the built programs: .ci/run calls it behind rt ci"]
 fn an_output_that_may_not_grow_ends_at_its_limit() {
-    for program in PROGRAMS {
+    for program in ALL {
         let form = program.reads;
         let input = form.first(5 * CHUNK);
         let out = program.writes(input);
@@ -573,7 +616,7 @@ fn a_lost_last_line_is_told() {
 #[test]
 #[ignore = "runs the built programs: .ci/run calls it behind rt ci"]
 fn nothing_is_read_behind_a_failed_write() {
-    for program in PROGRAMS {
+    for program in ALL {
         let (_ours, theirs) = stuffed();
         let (mut pipe, ended) = start(program.to(OwnedFd::from(theirs)));
         let (chunk, more) = program.reads.long().split_at(CHUNK_BYTES);
@@ -592,7 +635,7 @@ fn nothing_is_read_behind_a_failed_write() {
 #[test]
 #[ignore = "runs the built programs: .ci/run calls it behind rt ci"]
 fn a_reader_that_goes_away_ends_it_without_a_word() {
-    for program in PROGRAMS {
+    for program in ALL {
         let input = program.reads.long();
         fed(program.to(unread()), input).is(b"", "", 141);
 
@@ -613,7 +656,7 @@ fn a_reader_that_goes_away_ends_it_without_a_word() {
 #[test]
 #[ignore = "runs the built programs: .ci/run calls it behind rt ci"]
 fn a_reader_that_goes_away_is_told_where_the_signal_is_ignored() {
-    for program in PROGRAMS {
+    for program in ALL {
         let mut command = program.shell("trap '' PIPE; exec \"$0\"");
         command.stdout(unread());
         let ended = fed(command, program.reads.first(2 * CHUNK));
@@ -627,7 +670,7 @@ fn a_reader_that_goes_away_is_told_where_the_signal_is_ignored() {
 #[ignore = "runs the built programs: .ci/run calls it behind rt ci"]
 fn a_folder_is_no_empty_input() {
     let folder = Folder::new();
-    for program in PROGRAMS {
+    for program in ALL {
         let mut command = program.command();
         command.stdin(File::open(folder.path()).expect("a folder"));
         run(command).is(b"", &program.reading_failed(0), 1);
@@ -639,7 +682,7 @@ fn a_folder_is_no_empty_input() {
 #[test]
 #[ignore = "runs the built programs: .ci/run calls it behind rt ci"]
 fn a_failed_read_is_no_end_and_what_it_cut_off_is_left() {
-    for program in PROGRAMS {
+    for program in ALL {
         let form = program.reads;
         for bytes in [0, 7, 20, 44, 45, 47, CHUNK_BYTES, CHUNK_BYTES + 107] {
             let input = &form.long()[..bytes];
@@ -676,7 +719,7 @@ fn a_refusal_before_a_failed_read_is_written() {
 #[test]
 #[ignore = "runs the built programs: .ci/run calls it behind rt ci"]
 fn of_two_failures_the_write_is_told() {
-    for program in PROGRAMS {
+    for program in ALL {
         let (reading, writing) = (program.reading_failed(0), program.writing_failed(0));
         for (bytes, told) in [(0, reading), (47, writing)] {
             let input = &program.reads.long()[..bytes];
@@ -688,7 +731,7 @@ fn of_two_failures_the_write_is_told() {
 #[test]
 #[ignore = "runs the built programs: .ci/run calls it behind rt ci"]
 fn any_of_the_standard_three_may_be_closed() {
-    for program in PROGRAMS {
+    for program in ALL {
         let input = program.reads.first(CHUNK + 1);
         for closed in 0..8 {
             let is_closed = |number: i32| closed & (1 << number) != 0;
@@ -711,7 +754,7 @@ fn any_of_the_standard_three_may_be_closed() {
 #[test]
 #[ignore = "runs the built programs: .ci/run calls it behind rt ci"]
 fn a_signal_that_ends_it_is_told() {
-    for program in PROGRAMS {
+    for program in ALL {
         let input = program.reads.first(2 * CHUNK);
         let ended = limited(&program, "exec \"$0\"", 1, input);
         let out = &program.writes(input)[..BLOCK];
@@ -724,7 +767,7 @@ fn a_signal_that_ends_it_is_told() {
 #[test]
 #[ignore = "runs the built programs: .ci/run calls it behind rt ci"]
 fn help_is_output() {
-    for program in PROGRAMS {
+    for program in [REPLAY, TO_TRACE, TO_TEXT, RESCUE] {
         for word in ["-h", "--help"] {
             run(program.of(word)).is(program.usage.as_bytes(), "", 0);
         }
@@ -734,7 +777,7 @@ fn help_is_output() {
 #[test]
 #[ignore = "runs the built programs: .ci/run calls it behind rt ci"]
 fn wrong_arguments_get_the_usage() {
-    for program in PROGRAMS {
+    for program in ALL {
         for line in [
             "\"$0\" one two",
             "\"$0\" --x",
@@ -760,7 +803,7 @@ fn a_file_that_is_missing_or_closed_to_us_is_told() {
     let secret = folder.file("secret", b"");
     let closed = fs::Permissions::from_mode(0o000);
     fs::set_permissions(&secret, closed).expect("our own file");
-    for program in PROGRAMS {
+    for program in ALL {
         cannot_be_read(&program, &folder.path().join("missing"));
         // root may read every file
         if File::open(&secret).is_err() {
@@ -772,7 +815,7 @@ fn a_file_that_is_missing_or_closed_to_us_is_told() {
 #[test]
 #[ignore = "runs the built programs: .ci/run calls it behind rt ci"]
 fn the_input_may_be_a_file_a_pipe_or_a_device() {
-    for program in PROGRAMS {
+    for program in ALL {
         let folder = Folder::new();
         let input = program.reads.first(CHUNK + 1);
         let file = folder.file("a capture.bin", input);
@@ -798,7 +841,7 @@ fn the_input_may_be_a_file_a_pipe_or_a_device() {
 #[test]
 #[ignore = "runs the built programs: .ci/run calls it behind rt ci"]
 fn a_link_of_any_name_starts_it() {
-    for program in PROGRAMS {
+    for program in [REPLAY, TO_TRACE, TO_TEXT, RESCUE] {
         let folder = Folder::new();
         let input = program.reads.first(3);
         symlink(program.launcher(), folder.path().join("a link")).expect("a link");
@@ -816,31 +859,12 @@ fn a_link_of_any_name_starts_it() {
 
 // The README
 
-/// The commands that stand behind a `$`, and what is shown below each.
-fn examples(document: &str) -> Vec<(&str, String)> {
-    let mut examples: Vec<(&str, String)> = Vec::new();
-    let mut is_below = false;
-    for line in document.lines() {
-        let Some(shown) = line.strip_prefix("    ") else {
-            is_below = false;
-            continue;
-        };
-        if let Some(command) = shown.strip_prefix("$ ") {
-            examples.push((command, String::new()));
-            is_below = true;
-        } else if let (true, Some((_, output))) = (is_below, examples.last_mut()) {
-            *output += &format!("{shown}\n");
-        }
-    }
-    examples
-}
-
 #[test]
 #[ignore = "runs the built programs: .ci/run calls it behind rt ci"]
 fn the_readme_shows_what_its_commands_write() {
     let root = Path::new(ROOT);
     let folder = Folder::new();
-    for name in ["lessons", "replay", "to-text", "to-trace"] {
+    for name in ["lessons", "replay", "rescue", "to-text", "to-trace"] {
         symlink(root.join(name), folder.path().join(name)).expect("a link");
     }
     let readme = fs::read_to_string(root.join("README.md")).expect("the README");

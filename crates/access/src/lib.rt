@@ -79,6 +79,9 @@ pub const NO_ROOM: u8 = 24;
 // The line reader's.
 pub const NO_LINE: u8 = 25;
 
+// The rescue's.
+pub const LIST_FULL: u8 = 60;
+
 // An access that does not use C.
 pub fn asked(kind: u8, side: u8, s: u8, a: u32, b: u32) -> Access
     ensures { λ r. ⌜ accessAs r ≡ record { kind = kind; side = side; s = s; a = a; b = b; c = 0 } ⌝ }

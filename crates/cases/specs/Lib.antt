@@ -47,5 +47,6 @@ pub mod NarrowBus
 pub mod SourceVectors
 pub mod PinVectors
 pub mod BayVectors
+pub mod RescueVectors
 pub mod SoundVectors
 pub mod FreshVectors

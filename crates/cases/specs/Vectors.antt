@@ -19,6 +19,8 @@ use Rattle.model.specs.Calls.{call}
 use Rattle.model.specs.Bench.{CallCase}
 use Rattle.model.specs.Source.{Memory, Part, source}
 use Rattle.model.specs.Pins.{Decoded, decode}
+use Rattle.model.specs.Rescue as rescue
+use Rattle.model.specs.Rescue.{entries}
 
 abbrev pub settings : (base length lo hi : ℕ) → Settings
 settings base length lo hi = record { base = base; length = length; lo = lo; hi = hi }
@@ -123,3 +125,26 @@ freshCase s n c = record { settings = s; expected = record { number = n; card = 
 
 abbrev pub FreshAgrees : List FreshCase → Type 0
 FreshAgrees cases = map (λ c. freshCard (c .settings)) cases ≡ map (λ c. c .expected) cases
+
+-- a damaged trace, and its entries
+pub record EntriesCase : Type 0 where
+  pub trace : List ℕ
+  pub expected : List rescue.Entry
+
+abbrev pub entriesCase : (trace : List ℕ) → List rescue.Entry → EntriesCase
+entriesCase trace es = record { trace = trace; expected = es }
+
+abbrev pub EntriesAgree : List EntriesCase → Type 0
+EntriesAgree cases = map (λ c. entries (c .trace)) cases ≡ map (λ c. c .expected) cases
+
+-- the same into a lent list: the answer, and the list afterwards
+pub record ListCase : Type 0 where
+  pub trace : List ℕ
+  pub list : List ℕ
+  pub expected : rescue.Rescued
+
+abbrev pub listCase : (trace list : List ℕ) → rescue.Listing → (after : List ℕ) → ListCase
+listCase trace list answer after = record { trace = trace; list = list; expected = record { answer = answer; list = after } }
+
+abbrev pub ListsAgree : List ListCase → Type 0
+ListsAgree cases = map (λ c. rescue.rescue (c .trace) (c .list)) cases ≡ map (λ c. c .expected) cases

@@ -9,6 +9,7 @@ use lib.Seq.{sets, sets-eq, drop-drop, drop-length}
 use lib.Dec.{lit≤}
 use Rattle.model.specs.Accesses.{Access}
 use Rattle.model.specs.TestLaws.{no-both}
+use Rattle.model.specs.LaneLaws.{from-place}
 use Rattle.model.specs.Trace.{recordBytes, numberAfter, Reading, recorded, refused, readRecord, Wrote, writeRecord}
 use Rattle.model.specs.AccessText.{readLine}
 use Rattle.model.specs.TraceLaws.{write-stores}
@@ -18,7 +19,7 @@ use Rattle.trace.specs.declared.Write.{Write}
 use Rattle.trace.specs.declared.Write.the-variants as write
 use Rattle.trace.specs.Bridge.{wroteAs}
 use Rattle.decimal.specs.Bridge.{Written}
-use Rattle.decimal.specs.Laws.{from-place, begun, second-left, ended}
+use Rattle.decimal.specs.Laws.{begun, second-left, ended}
 use Rattle.convert.specs.declared.Form as code
 use Rattle.convert.specs.declared.Form.the-variants.{Text, Trace}
 use Rattle.convert.specs.declared.Step.{Step}

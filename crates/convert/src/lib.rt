@@ -57,7 +57,7 @@ impl Step {
 }
 
 // "Numbers start at 0; after 65,535 the record number starts again at 0."
-fn number_after(count: u64) -> u16
+pub fn number_after(count: u64) -> u16
     ensures { λ r. ⌜ r ≡ numberAfter count ⌝ }
 {
     (count % 65536) as u16

@@ -7,10 +7,10 @@ use mathlib.Core.List.{List, [], _∷_, _++_, flatten, append-nil}
 use Prim.Native.Nat.{ℕ, _+_, _-_, _<_, _≤_}
 use native.Mathlib.Nat.{sub-zero, zero-add}
 use native.Mathlib.Omega.{arith}
-use lib.ListN.{length, take, drop, length-append, take-append-drop}
-use lib.Seq.{length-take-le, take-take}
+use lib.ListN.{length, take, length-append}
+use lib.Seq.{length-take-le}
 use lib.Dec.{eqb, lit≤}
-use borrow.Author.Tests.{eqb-true, eqb-false, ne-eqb}
+use borrow.Author.Tests.{ne-eqb}
 use Rattle.model.specs.Choice.{if_then_else_}
 use Rattle.model.specs.TestLaws.{or-right, no-both, if-case}
 use Rattle.model.specs.Convert as model
@@ -19,12 +19,12 @@ use Rattle.model.specs.ConvertLaws.{Readable, chunks-more, chunked, ahead}
 use Rattle.decimal.specs.Laws.{text-there}
 use Rattle.stream.specs.declared.Chunk.{Chunk}
 use Rattle.stream.specs.Bridge.{Keeps, Reads, chunkBytes, leastOf, goesOn, brokeOff}
-use Rattle.stream.specs.Laws.{more-is, end-is}
+use Rattle.stream.specs.Laws.{kept-front, more-is, end-is}
 use Rattle.convert.specs.declared.Form.{Form}
 use Rattle.convert.specs.Bridge.{formAs, otherAs, ChunkTurned}
 use Rattle.convert.specs.Laws.{readable, some-longest}
 use Rattle.converter.specs.declared.Turn.{Turn}
-use Rattle.converter.specs.Bridge.{firstTurn, placeAt, Going, bytesOf, Turned, mostChunks, Reached, Ended}
+use Rattle.converter.specs.Bridge.{firstTurn, placeAt, Going, bytesOf, Turned, Reached, Ended}
 
 -- A CHUNK TURNED
 
@@ -32,14 +32,6 @@ use Rattle.converter.specs.Bridge.{firstTurn, placeAt, Going, bytesOf, T
 together : (from to : model.Form) (least : ℕ) (p : Place) (bytes all : List ℕ) → p .stopped ≡ false → all ≡ p .left ++ bytes →
     convertOn from to least p bytes ≡ convert from to least (p .count) all
 together from to least p bytes all h e = rw (h, e)
-
--- what was left of the last chunk stands at the start of this one
-kept-first : (left kept input : List ℕ) (n size : ℕ) → left ≡ take n kept → n ≤ length kept → n ≤ size → take n input ≡ take n kept →
-    take size input ≡ left ++ drop (length left) (take size input)
-kept-first left kept input n size e h l s =
-    let long : length left ≡ n = ap length e ∙ length-take-le n kept h in
-    let front : take n (take size input) ≡ left = take-take n size input l ∙ s ∙ sym e in
-    sym (take-append-drop n (take size input)) ∙ rw (front, long)
 
 pub turned : (from : Form) {last turn : Turn} {entry kept input before out : List ℕ} {n least size : ℕ} → Going last →
     length kept ≡ chunkBytes → length input ≡ chunkBytes →
@@ -52,7 +44,7 @@ pub turned : (from : Form) {last turn : Turn} {entry kept input before out : Lis
 turned from {last} {turn} {entry} {kept} {input} {n} g hk hi k r es el c t m =
     let p : Place = placeAt last entry in
     let left : p .left ≡ take n kept = sym (k .bytes) in
-    let all = kept-first (p .left) kept input n (turn .chunk .size) left (omega (arith, r .behind, r .fits)) (r .behind) (r .stay) in
+    let all = kept-front (p .left) kept input n (turn .chunk .size) left (omega (arith, r .behind, r .fits)) (r .behind) (r .stay) in
     let chunk = rw (sub-zero, es, el) at c in
     let is = together (formAs from) (otherAs from) (leastOf (turn .chunk) (formAs from .longest)) p (bytesOf p turn input) (take (turn .chunk .size) input) (g .stopped) all in
     record {
@@ -95,15 +87,6 @@ module _ {from : Form} {before : Place} {turn : Turn} {input out : List ℕ} (m 
         place = rw (chunks-more (formAs from) (otherAs from) beginning (r .chunks) bytes, ← r .place) (rw (is .0) at (t .place));
         going = is .1;
       }
-
--- WHEN THE LOOP ENDS
-
-pub all-read : (more : Bool) (k : ℕ) → (not more || eqb k mostChunks) ≡ true → more ≡ true → k ≡ mostChunks
-all-read more k h m = eqb-true k mostChunks (rw m at h)
-
-pub goes-on : (more : Bool) (k : ℕ) → (not more || eqb k mostChunks) ≡ false → k ≤ mostChunks → (more ≡ true) × (k < mostChunks)
-goes-on true k h l = (refl, omega (arith, eqb-false k mostChunks h))
-goes-on false k h l = no-both (sym h)
 
 -- A CONVERSION THAT DID NOT BREAK OFF
 

@@ -1,16 +1,12 @@
 -- How text is stored part by part, in its order or from the back, and what a buffer then holds.
 use mathlib.Core.Path.{_≡_, refl, sym, ap, _∙_}
 use mathlib.Core.List.{List, [], _∷_, _++_}
-use Prim.Native.Nat.{ℕ, suc, _+_, _-_, _<_, _≤_}
+use Prim.Native.Nat.{ℕ, suc, _+_, _<_, _≤_}
 use native.Mathlib.Nat.{add-zero, add-suc, suc-add}
 use native.Mathlib.Omega.{arith}
-use lib.ListN.{length, set, take, drop, length-append, length-drop}
-use lib.Seq.{sets, sets-eq, set-comm, take-at, take-all, length-take-le}
+use lib.ListN.{length, set, take, drop, length-append}
+use lib.Seq.{sets, sets-eq, set-comm, take-at, length-take-le}
 use Rattle.decimal.specs.Bridge.{Written}
-
--- the part of a slice from a place on
-pub from-place : (l : List ℕ) (at : ℕ) → take (length l - at) (drop at l) ≡ drop at l
-from-place l at = take-all (length l - at) (drop at l) (omega (arith, length-drop at l))
 
 -- where there is room, the buffer is what stood in front, the text, and what stood behind
 pub parts : {l m s : List ℕ} {at r : ℕ} → at + length s ≤ length l → Written l at s r m → m ≡ take at l ++ s ++ drop r l

@@ -37,10 +37,10 @@ pub record Readable (f : Form) : Type 0 where
   pub first : (count : ℕ) (s t : List ℕ) → f .longest ≤ length s → f .read count (s ++ t) ≡ f .read count s
 
 -- a fact of every list, from the same of every shorter one
-abbrev FromShorter : (List ℕ → Type 0) → Type 0
+abbrev pub FromShorter : (List ℕ → Type 0) → Type 0
 FromShorter P = (l : List ℕ) → ((m : List ℕ) → length m < length l → P m) → P l
 
-by-length : (P : List ℕ → Type 0) → FromShorter P → (l : List ℕ) → P l
+pub by-length : (P : List ℕ → Type 0) → FromShorter P → (l : List ℕ) → P l
 by-length P f l = within (suc (length l)) l (omega arith)
   where
     within : (k : ℕ) (l : List ℕ) → length l < k → P l

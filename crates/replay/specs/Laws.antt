@@ -1,14 +1,12 @@
 -- One chunk more behind full ones; and the text of a replay that did not break off is that of the whole trace.
-use mathlib.Core.Path.{_≡_, refl, sym, ap, _∙_}
-use mathlib.Core.Bool.{Bool, true, false, not, _&&_, _||_}
+use mathlib.Core.Path.{_≡_, refl, ap}
+use mathlib.Core.Bool.{true, false}
 use mathlib.Core.List.{List, [], _∷_, _++_, flatten}
-use mathlib.Core.Logic.{_⊎_, inl, inr}
-use Prim.Native.Nat.{ℕ, _+_, _<_, _≤_}
+use mathlib.Core.Logic.{_⊎_}
+use Prim.Native.Nat.{ℕ, _+_, _<_}
 use native.Mathlib.Omega.{arith}
 use lib.ListN.{length, take, length-append}
-use lib.Dec.{eqb, eqb→eq}
-use borrow.Author.Tests.{eqb-false}
-use Rattle.model.specs.TestLaws.{All, no-both, or-left, or-right}
+use Rattle.model.specs.TestLaws.{All}
 use Rattle.model.specs.Replay.{Standing, replayStart, replayText, lastText}
 use Rattle.model.specs.ReplayLaws.{replayChunks, chunks-more, WholeRecords, chunked-text}
 use Rattle.standing.specs.Bridge.{standingAs}
@@ -17,7 +15,7 @@ use Rattle.stream.specs.Laws.{end-is}
 use Rattle.turn.specs.declared.Turn.{Turn}
 use Rattle.turn.specs.Bridge.{bytesOf, Turned, closingText}
 use Rattle.turn.specs.Laws.{more-full, more-going}
-use Rattle.replay.specs.Bridge.{mostChunks, Reached, Ended}
+use Rattle.replay.specs.Bridge.{Reached, Ended}
 
 -- ONE CHUNK MORE
 
@@ -44,16 +42,6 @@ chunk-more {turn} {input} h m r t =
       standing = rw (chunks-more replayStart (r .chunks) bytes, ← r .standing) (t .standing);
       going = more-going t m;
     }
-
--- WHEN THE LOOP ENDS
-
--- `on`: what the turn says, when it is asked whether it goes on
-pub all-read : (more on : Bool) (k : ℕ) → on ≡ more → (not on || eqb k mostChunks) ≡ true → more ≡ true → k ≡ mostChunks
-all-read more on k e h m = eqb→eq k mostChunks (rw (rw (e, m) at h) tt)
-
-pub goes-on : (more on : Bool) (k : ℕ) → on ≡ more → (not on || eqb k mostChunks) ≡ false → k ≤ mostChunks → (more ≡ true) × (k < mostChunks)
-goes-on more true k e h l = (sym e, omega (arith, eqb-false k mostChunks h))
-goes-on more false k e h l = no-both (sym h)
 
 -- A REPLAY THAT DID NOT BREAK OFF
 

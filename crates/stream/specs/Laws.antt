@@ -7,10 +7,10 @@ use Prim.Native.Nat.{ℕ, suc, _+_, _-_, _<_, _≤_}
 use native.Mathlib.Nat.{add-zero}
 use native.Mathlib.Omega.{arith}
 use native.Mathlib.Numerals.{add-one}
-use lib.ListN.{length, getD, set, take, drop, length-drop}
+use lib.ListN.{length, getD, set, take, drop, length-drop, take-append-drop}
 use lib.Seq.{length-take-le, take-suc, take-suc-set, take-append-le, take-take, take-add, drop-at, getD-drop, drop-drop, drop-set-lt}
 use lib.Dec.{eqb}
-use borrow.Author.Tests.{eqb-false, not-true}
+use borrow.Author.Tests.{eqb-true, eqb-false, not-true}
 use Rattle.model.specs.TestLaws.{and-left, and-right, or-left, or-right, no-both}
 use Rattle.stream.specs.declared.Chunk.{Chunk}
 use Rattle.stream.specs.Bridge.{Keeps, chunkBytes, goesOn, brokeOff}
@@ -58,6 +58,14 @@ all-moved before now at size h l m =
 pub stay : (l rest : List ℕ) (kept size : ℕ) → kept ≤ size → size ≤ length l → take kept (take size l ++ rest) ≡ take kept l
 stay l rest kept size h g = take-append-le kept (take size l) rest (omega (arith, length-take-le size l g)) ∙ take-take kept size l h
 
+-- what was left of the last chunk stands at the start of this one
+pub kept-front : (left kept input : List ℕ) (n size : ℕ) → left ≡ take n kept → n ≤ length kept → n ≤ size → take n input ≡ take n kept →
+    take size input ≡ left ++ drop (length left) (take size input)
+kept-front left kept input n size e h l s =
+    let long : length left ≡ n = ap length e ∙ length-take-le n kept h in
+    let front : take n (take size input) ≡ left = take-take n size input l ∙ s ∙ sym e in
+    sym (take-append-drop n (take size input)) ∙ rw (front, long)
+
 -- HOW A PROGRAM GOES ON
 
 -- a chunk behind which more is read was full, nothing of it was refused, and no read failed
@@ -87,3 +95,12 @@ end-is chunk stopped lost more l e h = by (why (eqb (chunk .size) chunkBytes) st
     by : (eqb (chunk .size) chunkBytes ≡ false) ⊎ (stopped ≡ true) → (chunk .size < chunkBytes) ⊎ (stopped ≡ true)
     by (inl f) = inl (omega (arith, eqb-false (chunk .size) chunkBytes f))
     by (inr s) = inr s
+
+-- WHEN THE LOOP OVER THE CHUNKS ENDS, of which at most so many are read. `on`: what a turn says, when it is asked whether it goes on
+
+pub all-read : (most : ℕ) (more on : Bool) (k : ℕ) → on ≡ more → (not on || eqb k most) ≡ true → more ≡ true → k ≡ most
+all-read most more on k e h m = eqb-true k most (rw (e, m) at h)
+
+pub goes-on : (most : ℕ) (more on : Bool) (k : ℕ) → on ≡ more → (not on || eqb k most) ≡ false → k ≤ most → (more ≡ true) × (k < most)
+goes-on most more true k e h l = (sym e, omega (arith, eqb-false k most h))
+goes-on most more false k e h l = no-both (sym h)

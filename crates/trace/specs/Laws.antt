@@ -1,18 +1,21 @@
 -- The number of a record beside the checks of what stands there: 22 is given after 20 and 21, and before 23; and a record stored part by part.
-use mathlib.Core.Path.{_≡_, refl}
+use mathlib.Core.Path.{_≡_, refl, ap, _∙_}
 use mathlib.Core.Bool.{Bool, true, false, not, _&&_}
 use mathlib.Core.List.{List, [], _∷_}
-use Prim.Native.Nat.{ℕ, _≤_}
-use lib.ListN.{length, getD}
-use lib.Seq.{sets, sets-eq}
+use Prim.Native.Nat.{ℕ, _+_, _<_, _≤_}
+use native.Mathlib.Nat.{add-zero}
+use native.Mathlib.Omega.{arith}
+use lib.ListN.{length, getD, drop, length-drop}
+use lib.Seq.{sets, sets-eq, getD-drop}
 use lib.Dec.{eqb, ltb}
-use borrow.Author.Tests.{eq-eqb}
+use borrow.Author.Tests.{eq-eqb, eqb-true, le-ltb}
 use Rattle.model.specs.Choice.{if_then_else_}
 use Rattle.model.specs.Checks.{_for_, refusal}
-use Rattle.model.specs.Lanes.{writeDword}
+use Rattle.model.specs.Lanes.{dwordOf, writeDword}
 use Rattle.model.specs.Accesses.{Access}
 use Rattle.model.specs.Trace.{recordBytes, nextNumber, traceChecks, next, writeRecord}
 use Rattle.model.specs.TraceLaws.{write-stores}
+use Rattle.model.specs.Rescue.{stands}
 use Rattle.trace.specs.Bridge.{recordNumber, damage, headBytes}
 
 abbrev given : (short unmarked unexpected nonzero : Bool) → ℕ
@@ -30,6 +33,27 @@ pub numbered : (bytes : List ℕ) (expected d : ℕ) → d ≡ damage bytes
 numbered bytes expected d h =
     rw (h, eq-eqb (recordNumber bytes) (recordNumber bytes) refl)
     (between (ltb (length bytes) 20) (not (eqb (getD bytes 0 0) 0x42 && eqb (getD bytes 1 0) 0x50)) (not (eqb (recordNumber bytes) expected)) (not (eqb (getD bytes 7 0) 0)))
+
+-- WHETHER A RECORD STANDS at a place, by its bytes there; the two of the mark as one number
+
+module _ (bytes : List ℕ) (at : ℕ) (h : at + 20 ≤ length bytes) where
+  stands-at : stands (drop at bytes) ≡ (eqb (getD bytes at 0) 0x42 && eqb (getD bytes (at + 1) 0) 0x50 && eqb (getD bytes (at + 7) 0) 0)
+  stands-at =
+      let whole = le-ltb (length (drop at bytes)) 20 (omega (arith, length-drop at bytes)) in
+      let first = getD-drop at bytes 0 0 ∙ ap (λ (k : ℕ). getD bytes k 0) (add-zero at) in
+      rw (whole, first, getD-drop at bytes 1 0, getD-drop at bytes 7 0)
+
+  pub unmarked : (dwordOf (getD bytes at 0 ∷ getD bytes (at + 1) 0 ∷ []) ≡ dwordOf (0x42 ∷ 0x50 ∷ []) → ⊥) → stands (drop at bytes) ≡ false
+  unmarked n = stands-at ∙ by (eqb (getD bytes at 0) 0x42) (eqb (getD bytes (at + 1) 0) 0x50) refl refl
+    where
+      by : (a b : Bool) → eqb (getD bytes at 0) 0x42 ≡ a → eqb (getD bytes (at + 1) 0) 0x50 ≡ b → (a && b && eqb (getD bytes (at + 7) 0) 0) ≡ false
+      by false b e f = refl
+      by true false e f = refl
+      by true true e f = absurd (n (rw (eqb-true (getD bytes at 0) 0x42 e, eqb-true (getD bytes (at + 1) 0) 0x50 f)))
+
+  pub marked : getD bytes at 0 < 256 → getD bytes (at + 1) 0 < 256 → dwordOf (getD bytes at 0 ∷ getD bytes (at + 1) 0 ∷ []) ≡ dwordOf (0x42 ∷ 0x50 ∷ []) →
+      stands (drop at bytes) ≡ eqb (getD bytes (at + 7) 0) 0
+  marked l m n = stands-at ∙ rw (eq-eqb (getD bytes at 0) 0x42 (omega arith), eq-eqb (getD bytes (at + 1) 0) 0x50 (omega arith))
 
 -- THE WRITER
 

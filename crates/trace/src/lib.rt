@@ -2,11 +2,12 @@
 ghost use mathlib.Core.Path.{_≡_};
 ghost use mathlib.Core.List.{[], _∷_};
 ghost use Prim.Native.Nat.{_+_, _≤_};
-ghost use lib.ListN.{length};
+ghost use lib.ListN.{length, drop};
 ghost use lib.Seq.{sets};
 ghost use Rattle.model.specs.Checks.{refusal};
 ghost use Rattle.model.specs.Lanes.{dwordOf};
 ghost use Rattle.model.specs.Trace.{numberAt, traceChecks, accessAt, readRecord, nextNumber, writeRecord};
+ghost use Rattle.model.specs.Rescue.{stands};
 ghost use Rattle.access.specs.Bridge.{accessAs};
 ghost use Rattle.trace.specs.Bridge.{readAs, damage, headBytes, wroteAs};
 use access::Access;
@@ -53,6 +54,26 @@ fn damage(bytes: &[u8]) -> u8
     )
 }
 
+// "Where a whole record with mark and zero byte stands": at a place with 20 bytes from there on (document 02, L14). Both bytes of the mark are compared at
+// once: most places fail there.
+pub fn stands(bytes: &[u8], at: usize) -> bool
+    requires { ⌜ at + 20 ≤ length (now bytes) ⌝ }
+    ensures { λ r. ⌜ r ≡ stands (drop at (now (bytes .entry))) ⌝ }
+{
+    if number_of(bytes[at], bytes[at + 1]) != number_of(MARK[0], MARK[1]) {
+        return false;
+    }
+    bytes[at + 7] == 0
+}
+
+// The number that a whole record says.
+pub fn record_number(bytes: &[u8]) -> u16
+    requires { ⌜ 20 ≤ length (now bytes) ⌝ }
+    ensures { λ r. ⌜ r ≡ numberAt 2 2 (now (bytes .entry)) ⌝ }
+{
+    number_of(bytes[2], bytes[3])
+}
+
 // "20 fewer than 20 bytes, 21 wrong mark, 22 unexpected record number, 23 byte 7 not zero, in that order"; else 0.
 fn refusal_of(bytes: &[u8], expected: u16) -> u8
     ensures { λ r. ⌜ r ≡ refusal (traceChecks (now (bytes .entry)) expected) ⌝ }
@@ -62,7 +83,7 @@ fn refusal_of(bytes: &[u8], expected: u16) -> u8
         return damage;
     }
     let unmarked = damage == access::WRONG_MARK;
-    let unexpected = number_of(bytes[2], bytes[3]) != expected;
+    let unexpected = record_number(bytes) != expected;
     access::when(
         access::WRONG_MARK,
         unmarked,
@@ -70,8 +91,8 @@ fn refusal_of(bytes: &[u8], expected: u16) -> u8
     )
 }
 
-// What a whole record says.
-fn access_of(bytes: &[u8]) -> Access
+// The access that a whole record says.
+pub fn access_of(bytes: &[u8]) -> Access
     requires { ⌜ 20 ≤ length (now bytes) ⌝ }
     ensures { λ r. ⌜ accessAs r ≡ accessAt (now (bytes .entry)) ⌝ }
 {

@@ -8,6 +8,7 @@ mod convert;
 mod device;
 mod pins;
 mod replay;
+mod rescue;
 mod sections;
 mod trace;
 
@@ -42,6 +43,7 @@ pub fn files() -> Vec<Stored> {
         .into_iter()
         .chain(replay::programs())
         .chain(convert::programs())
+        .chain(rescue::programs())
         .flat_map(|program| {
             let path = |file| format!("{}/{file}", program.name);
             [

@@ -5,6 +5,7 @@ mod bays;
 mod calls;
 pub mod fresh;
 pub mod pins;
+mod rescue;
 mod runs;
 pub mod sound;
 pub mod source;
@@ -49,6 +50,7 @@ pub fn files() -> Vec<Stored> {
     files.push(File::new("SourceVectors", source::text()));
     files.push(File::new("PinVectors", pins::text()));
     files.push(File::new("BayVectors", bays::text()));
+    files.push(File::new("RescueVectors", rescue::text()));
     files.push(File::new("SoundVectors", sound::text()));
     files.push(File::new("FreshVectors", fresh::text()));
     let modules: String = files

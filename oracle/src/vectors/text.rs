@@ -41,7 +41,7 @@ fn list<T>(items: impl IntoIterator<Item = T>, text: impl Fn(T) -> String) -> St
 }
 
 /// The same in brackets, where it is not empty.
-fn bracketed<T>(items: impl IntoIterator<Item = T>, text: impl Fn(T) -> String) -> String {
+pub fn bracketed<T>(items: impl IntoIterator<Item = T>, text: impl Fn(T) -> String) -> String {
     let line = list(items, text);
     if line == "[]" {
         line

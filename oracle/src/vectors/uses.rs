@@ -3,7 +3,7 @@
 use std::collections::BTreeSet;
 
 /// Modules, and what may be used of each.
-const OFFERED: [(&str, &[&str]); 15] = [
+const OFFERED: [(&str, &[&str]); 16] = [
     ("mathlib.Core.Path", &["refl"]),
     ("mathlib.Core.Bool", &["true", "false"]),
     ("mathlib.Core.List", &["List", "[]", "_∷_"]),
@@ -37,6 +37,21 @@ const OFFERED: [(&str, &[&str]); 15] = [
     ("Rattle.model.specs.Pins", &["decode"]),
     ("Rattle.model.specs.Bursts", &["burst"]),
     ("Rattle.model.specs.Bays", &["at", "noBay"]),
+    (
+        "Rattle.model.specs.Rescue",
+        &[
+            "scan",
+            "listed",
+            "after",
+            "entries",
+            "numbersOf",
+            "rescue",
+            "kept",
+            "skipped",
+            "count",
+            "refused",
+        ],
+    ),
     (
         "Rattle.model.specs.Bench",
         &[
@@ -77,6 +92,12 @@ const OFFERED: [(&str, &[&str]); 15] = [
             "BayCase",
             "bayCase",
             "BaysAgree",
+            "EntriesCase",
+            "entriesCase",
+            "EntriesAgree",
+            "ListCase",
+            "listCase",
+            "ListsAgree",
             "SoundCase",
             "soundCase",
             "SoundnessAgrees",
@@ -96,12 +117,17 @@ pub fn uses(text: &str) -> String {
         .collect()
 }
 
-/// The words outside of comments.
+/// The words outside of comments, but for the names that the text declares itself.
 fn words(text: &str) -> BTreeSet<&str> {
     let lines = text.lines().filter(|line| !line.starts_with("--"));
-    lines
+    let mut words: BTreeSet<&str> = lines
+        .clone()
         .flat_map(|line| line.split([' ', '(', ')', ',']))
-        .collect()
+        .collect();
+    for (own, _) in lines.filter_map(|line| line.split_once(" : ")) {
+        words.remove(own);
+    }
+    words
 }
 
 fn use_line(module: &str, names: &[&'static str], words: &BTreeSet<&str>) -> Option<String> {
@@ -122,6 +148,16 @@ mod tests {
         let lines = "use mathlib.Core.List.{[]}\n\
                      use Rattle.model.specs.State.{World}\n\
                      use Rattle.cases.specs.Vectors.{untouched, world, bytes}\n";
+        assert_eq!(uses(text), lines);
+    }
+
+    #[test]
+    fn nothing_of_its_own() {
+        let text = "entries : List Entry\nentries = []\nx : Access\nunfolding entries source\n";
+        let lines = "use mathlib.Core.List.{List, []}\n\
+                     use Rattle.model.specs.Runs.{Entry}\n\
+                     use Rattle.model.specs.Accesses.{Access}\n\
+                     use Rattle.model.specs.Source.{source}\n";
         assert_eq!(uses(text), lines);
     }
 

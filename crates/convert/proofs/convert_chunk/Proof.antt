@@ -6,7 +6,7 @@ use native.Mathlib.Omega.{arith}
 use lib.ListN.{length, drop, length-drop}
 use denote.Ref.{now}
 use borrow.Author.Needs.{needs}
-use Rattle.decimal.specs.Laws.{from-place}
+use Rattle.model.specs.LaneLaws.{from-place}
 use Rattle.convert.specs.Bridge.{formAs, otherAs, AccessTurned}
 use Rattle.convert.specs.Laws.{readable, far, Left, all-left, none-left, one-less, refused-left}
 use Rattle.convert.proofs.convert_chunk.Statement.{statement}

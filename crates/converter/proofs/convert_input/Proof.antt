@@ -6,7 +6,8 @@ use lib.ListN.{length}
 use denote.Ref.{now}
 use borrow.Author.Needs.{needs}
 use Rattle.converter.specs.Bridge.{placeAt, Going, mostChunks, Reached}
-use Rattle.converter.specs.Laws.{first-going, none-yet, more-going, chunk-more, all-read, goes-on}
+use Rattle.stream.specs.Laws.{all-read, goes-on}
+use Rattle.converter.specs.Laws.{first-going, none-yet, more-going, chunk-more}
 use Rattle.converter.proofs.convert_input.Statement.{statement}
 use Rattle.converter.proofs.convert_input.Tie as tie
 
@@ -44,7 +45,7 @@ returns : tie.Need-returns Inv-loop μ-loop
 returns c =
     let l = stood (c .before) .loop in
     let turned = chunk (c .before) .convert-next .ensures in (
-      record { before = l .chunks; place = placeAt (l .last) (l .input); reached = l .inv .4; last = turned .0; bound = all-read _ _ (c .if1 .taken) },
+      record { before = l .chunks; place = placeAt (l .last) (l .input); reached = l .inv .4; last = turned .0; bound = all-read mostChunks _ _ _ refl (c .if1 .taken) },
       omega (arith, turned .1, l .inv .2, l .inv .3),
     )
 
@@ -52,7 +53,7 @@ loop-again : tie.Need-loop-again Inv-loop μ-loop
 loop-again c =
     let l = stood (c .before) .loop in
     let turned = chunk (c .before) .convert-next .ensures in
-    let on = goes-on (chunk (c .before) .convert-next .result .more) (l .chunks + 1) (c .if1 .left) (omega (arith, l .inv .2)) in
+    let on = goes-on mostChunks (chunk (c .before) .convert-next .result .more) _ (l .chunks + 1) refl (c .if1 .left) (omega (arith, l .inv .2)) in
     (search needs, search needs, on .1, omega (arith, turned .1, l .inv .3), chunk-more (on .0) (turned .0) (l .inv .4), more-going (on .0) (turned .0))
 
 pub convert-input-spec : {M : Type 1} → statement M

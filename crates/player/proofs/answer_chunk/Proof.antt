@@ -13,7 +13,7 @@ use Rattle.model.specs.ReplayLaws.{replay-stopped}
 use Rattle.trace.specs.Bridge.{readAs}
 use Rattle.standing.specs.Bridge.{standingAs, performedAs}
 use Rattle.standing.specs.Laws.{counted, stop-counted}
-use Rattle.decimal.specs.Laws.{from-place}
+use Rattle.model.specs.LaneLaws.{from-place}
 use Rattle.player.specs.Laws.{Left, all-left, none-left, answered-left, refused-left, read-refused}
 use Rattle.player.proofs.answer_chunk.Statement.{statement}
 use Rattle.player.proofs.answer_chunk.Tie as tie

@@ -10,7 +10,8 @@ use Rattle.standing.specs.Bridge.{standingAs}
 use Rattle.stream.specs.Bridge.{chunkBytes}
 use Rattle.turn.specs.declared.Turn.{Turn}
 use Rattle.replay.specs.Bridge.{mostChunks, Reached}
-use Rattle.replay.specs.Laws.{none-yet, chunk-more, all-read, goes-on}
+use Rattle.stream.specs.Laws.{all-read, goes-on}
+use Rattle.replay.specs.Laws.{none-yet, chunk-more}
 use Rattle.replay.proofs.replay_input.Statement.{statement}
 use Rattle.replay.proofs.replay_input.Tie as tie
 
@@ -57,7 +58,7 @@ returns c =
       start = standingAs (l .last .standing) (l .shared) (l .window);
       reached = l .inv .8;
       last = chunk (c .before) .replay-chunk .ensures .0;
-      bound = all-read _ _ _ (c .before .goes-on .ensures) (c .if1 .taken);
+      bound = all-read mostChunks _ _ _ (c .before .goes-on .ensures) (c .if1 .taken);
     }
 
 -- what the chunk left of the memories and the buffers: as long as they were
@@ -81,7 +82,7 @@ loop-again c =
     let known = c .before in
     let l = stood known .loop in
     let turned = chunk known .replay-chunk .ensures in
-    let on = goes-on (chunk known .replay-chunk .result .more) _ (l .chunks + 1) (known .goes-on .ensures) (c .if1 .left) (omega (arith, l .inv .6)) in
+    let on = goes-on mostChunks (chunk known .replay-chunk .result .more) _ (l .chunks + 1) (known .goes-on .ensures) (c .if1 .left) (omega (arith, l .inv .6)) in
     let input : length (chunk known .replay-chunk .last .1 .1 .1 .0) ≡ chunkBytes = search (needs, after-input known .input .given, l .inv .4) in (
       search (needs, after-shared known .shared .given, l .inv .0),
       search (needs, after-window known .window .given, l .inv .1),

@@ -2,10 +2,8 @@
 use denote.Ref.{now}
 use mathlib.Core.Path.{_∙_}
 use Prim.Native.Nat.{_≤_}
-use native.Mathlib.Omega.{arith}
 use lib.ListN.{length}
 use borrow.Author.Tests.{eq-eqb, ne-eqb}
-use Rattle.lanes.specs.Laws.{all-lanes}
 use Rattle.model.specs.TraceLaws.{record-whole}
 use Rattle.trace.specs.Laws.{numbered}
 use borrow.Author.Needs.{needs}
@@ -23,15 +21,11 @@ returns c =
 
 returns-2 : tie.Need-returns-2
 returns-2 c =
-    let long = c .before .before .before .before .before in
+    let long = c .before .before .before in
     let a = long .before .before .before .args in
     let d = long .before .damage in
-    let two = all-lanes 2 (now (a .bytes)) 2 (omega (arith, whole long)) in
-    rw (c .when2 .ensures, c .before .when .ensures, c .before .before .number-of .ensures)
-    (rw (numbered (now (a .bytes)) (a .expected) (d .result) (d .ensures), ne-eqb _ 20 (long .if1 .left), ← two))
+    rw (c .when2 .ensures, c .before .when .ensures, c .before .before .record-number .ensures)
+    (rw (numbered (now (a .bytes)) (a .expected) (d .result) (d .ensures), ne-eqb _ 20 (long .if1 .left)))
 
 pub refusal-of-spec : {M : Type 1} → statement M
-refusal-of-spec =
-    tie.close
-    (tie.spec (λ c κs. search needs) returns (λ c. omega (arith, whole (c .before))) (λ c. omega (arith, whole (c .before .before)))
-    (λ c κs. search needs) (λ c κs. search needs) (λ c κs. search needs) returns-2)
+refusal-of-spec = tie.close (tie.spec (λ c κs. search needs) returns (λ c κs. whole c) (λ c κs. search needs) (λ c κs. search needs) returns-2)
