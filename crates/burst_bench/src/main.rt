@@ -1,6 +1,7 @@
 // The work of bench/run for bursts: 4,096 dwords written and read back, round after round, by bursts of mode 3 or by the same single accesses.
 // Reads cases of two numbers of four bytes, least byte first: 0 for bursts or 1 for single accesses, and the rounds. Writes a sum for each, which
 // is that of oracle/src/bursts/workload.rs.
+#![tactic(auto)]
 ghost use Rattle.std.specs.Prelude.{◌≡◌, length};
 
 use access::{Access, Answer};

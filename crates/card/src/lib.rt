@@ -1,4 +1,5 @@
 // The card's record by value: when it is sound, the fresh one, one part of it replaced, its reset, and what an access gives.
+#![tactic(auto)]
 ghost use Rattle.std.specs.Prelude.{◌≡◌, List, ℕ};
 ghost use Rattle.model.specs.State.{sound, with_fifos, with_arbitration, with_mailboxes, with_interrupts, with_transfer, with_dma, fresh, fresh_card};
 ghost use Rattle.model.specs.Accesses as model;

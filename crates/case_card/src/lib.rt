@@ -1,6 +1,7 @@
 // The head and the record of a case of the test programs: read from numbers of four bytes, least byte first, and the record and an answer written
 // out as lines of decimal numbers.
 // What stands where is said in oracle/src/programs/device/mod.rs.
+#![tactic(auto)]
 use access::Answer;
 use arbitration::{Arbitration, Pair};
 use card::Card;

@@ -1,5 +1,6 @@
 // The two programs of document 02, L1, by the form that is read: chunk after chunk of standard input turned into the other form and written to
 // standard output. Standard error gets a line where a read or a write failed, and where a text was refused.
+#![tactic(auto)]
 ghost use Rattle.std.specs.Prelude.{◌≡◌, true, ◌+◌, ◌<◌, ◌≤◌, ◌^◌, length};
 ghost use Rattle.std.proofs.lemmas.List.Edits.{sets};
 ghost use Rattle.decimal.specs.Bridge.{Written};

@@ -1,6 +1,7 @@
 // Runs the device, register accesses and the source on the cases of standard input, and writes the answers, the record and a digest of both
 // memories.
 // What stands in both files is said where they are made, in oracle/src/programs/device/mod.rs.
+#![tactic(auto)]
 ghost use Rattle.std.specs.Prelude.{◌≡◌, length};
 
 use access::Access;

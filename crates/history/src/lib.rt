@@ -1,4 +1,5 @@
 // Document 02, L7: what is known of an event position along a trace, record by record, and the answer that it gives.
+#![tactic(auto)]
 ghost use Rattle.std.specs.Prelude.{◌≡◌, List, map, ℕ, ◌≤◌};
 ghost use Rattle.model.specs.Why.{Reason, never, refused, because, places, told};
 ghost use Rattle.model.specs.ReasonLaws.{held_by};

@@ -1,6 +1,6 @@
 -- Laws of a damaged trace behind a place where its scan stands: what stands in front of it decides only which number is expected next.
 use Rattle.std.specs.Prelude.{◌≡◌, refl, Bool, true, false, not, ◌&&◌, ◌||◌, List, [], ◌∷◌, ◌++◌, ℕ, zero, suc, ◌+◌, ◌-◌, ◌*◌, ◌≤◌, ◌<◌, length, drop, ltb}
-use Rattle.std.proofs.Common.{sym, ap, ◌∙◌, add-zero, zero-add, arith, length-drop, drop-drop, lt-ltb, le-ltb, ltb-true, ltb-false, eq-eqb, ne_eqb}
+use Rattle.std.proofs.Common.{subst, sym, ap, ◌∙◌, add-zero, zero-add, arith, length-drop, drop-drop, lt-ltb, le-ltb, ltb-true, ltb-false, eq-eqb, ne_eqb}
 use Rattle.std.proofs.Math.Bool.{or-true}
 use Rattle.std.proofs.Math.Seq.{drop-nil}
 use Rattle.model.specs.Choice.{if◌then◌else◌, every}
@@ -305,9 +305,11 @@ records_behind k zero n =
     rw (add-zero, same) (behind_all (20 * k) (records_cover k n) (omega arith))
 records_behind k (suc i) zero = let none : 0 - suc i ≡ 0 = omega arith in rw none
 records_behind k (suc i) (suc n) =
-    let shift : k + suc i ≡ k + 1 + i = omega arith in
     let fewer : suc n - suc i ≡ n - i = omega arith in
-    rw (lt-ltb (20 * k) (20 * (k + suc i)) (omega arith), shift, fewer) (records_behind (k + 1) i n)
+    rw fewer (at (k + suc i) (omega arith) (records_behind (k + 1) i n))
+  where
+    at : (m : ℕ) → m ≡ k + 1 + i → behind (20 * (k + 1 + i)) (kept_records (k + 1) n) ≡ kept_records (k + 1 + i) (n - i) → behind (20 * m) (kept_records k (suc n)) ≡ kept_records m (n - i)
+    at m e r = rw (lt-ltb (20 * k) (20 * m) (omega arith)) (subst (λ (m : ℕ). behind (20 * m) (kept_records (k + 1) n) ≡ kept_records m (n - i)) (sym e) r)
 
 -- "it keeps the same records from there as the undamaged scan": which lists these
 pub undamaged_behind : (qs : List Access) (k : ℕ) → All Fits qs → behind (20 * k) (entries (written trace_form 0 qs)) ≡ kept_records k (length qs - k)

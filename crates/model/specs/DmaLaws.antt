@@ -35,6 +35,7 @@ Leaves (dma_is r) = ⊥
 module _ (d : Dma) where
   -- with other values in them, such a change does the same
   one_apart : (c : Change) → Leaves c → (s : State) → apply c (with_dma d s) ≡ with_dma d (apply c s)
+  one_apart all_fresh h s = elim h [ ]
   one_apart (pushed i entry) h s = refl
   one_apart (popped i) h s = refl
   one_apart (flag_is side i b) h s = refl
@@ -43,6 +44,7 @@ module _ (d : Dma) where
   one_apart (cleared side bits) h s = refl
   one_apart (enables_are side n) h s = refl
   one_apart (transfer_is t) h s = refl
+  one_apart (dma_is _) h s = elim h [ ]
 
   all_apart : (cs : List Change) → All Leaves cs → (s : State) → apply_all cs (with_dma d s) ≡ with_dma d (apply_all cs s)
   all_apart [] h s = refl

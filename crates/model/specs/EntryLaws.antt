@@ -270,6 +270,14 @@ covers_to (next s l c) = let h = covers_to c in omega arith
 covers_none : {at to : ℕ} → Covers at [] to → at ≡ to
 covers_none ended = refl
 
+-- the mark of a kept record first in the list, and those behind it
+marked_first : {n at number : ℕ} {doubtful : Bool} {es : List Entry} → Marked n (kept at number doubtful ∷ es) →
+    (doubtful ≡ not (eqb number n)) × Marked (next_number number) es
+marked_first (by_number m) = (refl, m)
+
+marked_behind : {n at size : ℕ} {es : List Entry} → Marked n (skipped at size ∷ es) → Marked n es
+marked_behind (over_range m) = m
+
 module _ (t : List ℕ) where
   -- a range or none and the record that is kept behind it
   kept_only : (at run here number expected : ℕ) (es : List Entry) → at + run ≡ here → read_record (drop here t) number ≡ recorded (access_at (drop here t)) →
@@ -288,17 +296,19 @@ module _ (t : List ℕ) where
   only_from : (n : ℕ) {at : ℕ} {es : List Entry} → Covers at es (length t) → Apart es → All (RangeClear t) es → All (RecordRead t) es → Marked n es →
       es ≡ entries_from (standing_at at n) (drop at t)
   only_from n ended none_left c r m = sym (rw (drop-length t) (from_none (standing_at (length t) n)))
-  only_from n (next s l v) (record_first {at} {number} {es = es} a) (c, cs) (r, rs) (by_number m) =
-      let rest = only_from (next_number number) v a cs rs m in
-      rw (← s) (kept_only at 0 at number n es (omega arith) r (rw (← s) at rest))
+  only_from n (next s l v) (record_first {at} {number} {es = es} a) (c, cs) (r, rs) m =
+      let first = marked_first m in
+      let rest = only_from (next_number number) v a cs rs first.1 in
+      rw (← s, first.0) (kept_only at 0 at number n es (omega arith) r (rw (← s) at rest))
   only_from n (next s l v) (range_last {at} {size}) (c, cs) r m =
       let z : at + size ≡ length t = (let e = covers_none v in omega arith) in
       rw (← s, range_only at size n c (omega arith), z, drop-length t, from_none (placed at size n), ne_eqb size 0 (λ e. omega arith))
-  only_from n (next s l (next s' l' v)) (range_first {from} {size} {at} {number} {es = es} a) (c, (c', cs)) (r, (r', rs)) (over_range (by_number m)) =
-      let rest = only_from (next_number number) v a cs rs m in
+  only_from n (next s l (next s' l' v)) (range_first {from} {size} {at} {number} {es = es} a) (c, (c', cs)) (r, (r', rs)) m =
+      let first = marked_first (marked_behind m) in
+      let rest = only_from (next_number number) v a cs rs first.1 in
       let z : from + size ≡ at = omega arith in
       let h = covers_to v in
-      rw (← s, range_only from size n c (omega arith), z)
+      rw (← s, range_only from size n c (omega arith), z, first.0)
       (rw (ne_eqb size 0 (λ e. omega arith)) at (kept_only from size at number n es z r' (rw (← s') at rest)))
 
   -- L14's sentences have one answer: entries that cover the trace, with no two ranges side by side, no record at a skipped byte, a record at each kept

@@ -1,4 +1,5 @@
 // The replay: the records of a chunk, answered by the card and written as text.
+#![tactic(auto)]
 ghost use Rattle.std.specs.Prelude.{◌≡◌, ◌+◌, ◌*◌, ◌<◌, ◌≤◌, ◌^◌, length};
 ghost use Rattle.model.specs.TraceLaws.{reading_number};
 ghost use Rattle.model.specs.Text.{line_text};

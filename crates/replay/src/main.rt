@@ -1,5 +1,6 @@
 // Document 01, "Trace and replay": replays the trace of standard input, and writes the answers to standard output. Where a read or a write
 // fails there is no last line, and standard error says which of the two it was, and after how many records.
+#![tactic(auto)]
 ghost use Rattle.std.specs.Prelude.{◌≡◌, length};
 ghost use Rattle.model.specs.Replay.{replay_start};
 ghost use Rattle.standing.specs.Bridge.{standing_as};

@@ -1,4 +1,5 @@
 // Document 02, L14: rescues the damaged trace of standard input, and writes the kept records anew as a trace.
+#![tactic(auto)]
 use rescue_chunk::Output;
 
 fn main() {

@@ -1,5 +1,6 @@
 // The two programs of document 02, L14, by what is written: chunk after chunk of standard input scanned, and the entries, or the kept records anew,
 // written to standard output. Standard error gets a line where a read or a write failed.
+#![tactic(auto)]
 ghost use Rattle.std.specs.Prelude.{◌≡◌, ◌+◌, ◌<◌, ◌≤◌, ◌^◌, length};
 ghost use Rattle.decimal.specs.Bridge.{Written};
 ghost use Rattle.rescue_chunk.specs.Bridge.{Small};

@@ -1,4 +1,5 @@
 // Document 02, L1: turns the text list of accesses of standard input into a trace.
+#![tactic(auto)]
 use convert::Form;
 
 fn main() {

@@ -1,4 +1,5 @@
 // One chunk of the replay: read from standard input, answered, and its text written to standard output; and the last lines, by how it went.
+#![tactic(auto)]
 ghost use Rattle.std.specs.Prelude.{◌≡◌, true, ◌+◌, ◌<◌, ◌≤◌, ◌^◌, length};
 ghost use Rattle.decimal.specs.Bridge.{Written};
 ghost use Rattle.standing.specs.Bridge.{standing_as};

@@ -1,5 +1,6 @@
 // Document 02, L7: says why an event bit reads as it does at the end of the trace of standard input. The side is the first argument, the position the
 // second. Where a read or a write fails, standard error says which of the two it was, and after how many records.
+#![tactic(auto)]
 ghost use Rattle.std.specs.Prelude.{◌≡◌, ◌+◌, ◌≤◌, length};
 ghost use Rattle.decimal.specs.Bridge.{Written};
 ghost use Rattle.why_program.specs.Bridge.{Argument, Responded, answer_end, usage_end, fault_text, Closed};

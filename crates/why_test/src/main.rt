@@ -1,6 +1,7 @@
 // Asks of each trace of standard input why its bits read as they do. The traces stand one behind the other, as the independent program wrote them: how
 // many bytes the trace has and how many questions are asked of it, each four bytes, least byte first; the trace; and the questions, each the lengths of
 // two texts and the texts, a side and a position. What the program would write is written, and behind an answer its places, entries and records.
+#![tactic(auto)]
 ghost use Rattle.std.specs.Prelude.{◌≡◌, ◌≤◌, length};
 
 use testing::show;
