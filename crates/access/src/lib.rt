@@ -7,7 +7,7 @@ ghost use Rattle.model.specs.Sides.{side_of, other, not_by};
 ghost use Rattle.access.specs.Bridge.{access_as};
 
 // "Kind, side and selector S are bytes; A, B, C, V and X are 32-bit numbers."
-#[derive(Drop)]
+#[derive(Clone, Copy)]
 pub struct Access {
     pub kind: u8,
     pub side: u8,
@@ -18,7 +18,7 @@ pub struct Access {
 }
 
 // V and X where the access is done; else the number of the refusal.
-#[derive(Drop)]
+#[derive(Clone, Copy)]
 pub enum Answer {
     Done(u32, u32),
     Refused(u8),

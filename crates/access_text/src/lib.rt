@@ -10,7 +10,7 @@ ghost use Rattle.access_text.specs.Bridge.{three_text, no_three, ThreeAt, line_a
 use access::Access;
 
 // What is read where a line should stand: the access and how many bytes its line has, or the refusal's number alone.
-#[derive(Drop)]
+#[derive(Clone, Copy)]
 pub enum Line {
     Access(Access, usize),
     Refused(u8),
@@ -47,7 +47,7 @@ pub fn write_line(out: &mut [u8], at: usize, q: Access) -> usize
 }
 
 // Three numbers: whether they stand there, and the place behind the byte after the third.
-#[derive(Drop)]
+#[derive(Clone, Copy)]
 struct Three {
     stand: bool,
     x: u64,

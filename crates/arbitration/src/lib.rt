@@ -6,13 +6,13 @@ ghost use Rattle.model.specs.Sides.{side_of, other};
 ghost use Rattle.model.specs.Arbitration.{pair_sound, arbitration_sound, fresh_arbitration, pair_of, flag, with_flag, with_flag_of, pair_value, flags_value};
 ghost use Rattle.arbitration.specs.Bridge.{pair_as, arbitration_as};
 
-#[derive(Drop)]
+#[derive(Clone, Copy)]
 pub struct Pair {
     pub host: bool,
     pub local: bool,
 }
 
-#[derive(Drop)]
+#[derive(Clone, Copy)]
 pub struct Arbitration {
     pub pairs: [Pair; 4],
 }

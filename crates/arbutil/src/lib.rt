@@ -55,7 +55,7 @@ fn at_bit(answer: Answer, bit: u32) -> u32
 }
 
 // The card with a flag claimed or released, and V at its bit.
-#[derive(Drop)]
+#[derive(Clone, Copy)]
 struct Written {
     card: Card,
     v: u32,

@@ -5,7 +5,7 @@ ghost use Rattle.model.specs.Bays.{bay_index};
 ghost use Rattle.bays.specs.Bridge.{label_at, found_as};
 
 // A number taken as a bay index: "0 to 23".
-#[derive(Drop)]
+#[derive(Clone, Copy)]
 pub struct BayIndex(u8);
 
 impl BayIndex {
@@ -23,7 +23,7 @@ impl BayIndex {
 }
 
 // A number taken as the label on a bay: 1 to 24, and 0 where there is none.
-#[derive(Drop)]
+#[derive(Clone, Copy)]
 pub struct BayLabel(u8);
 
 impl BayLabel {
@@ -60,7 +60,7 @@ pub fn label(index: BayIndex) -> BayLabel
 }
 
 // Which bay has a label. Index 0 is a bay, so none is a case of its own.
-#[derive(Drop)]
+#[derive(Clone, Copy)]
 pub enum Found {
     At(BayIndex),
     NoBay,

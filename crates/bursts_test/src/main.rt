@@ -36,7 +36,7 @@ fn burst_of(reads: bool, q: Access) -> Burst {
     }
 }
 
-#[derive(Drop)]
+#[derive(Clone, Copy)]
 enum Call {
     Direct(Access),
     Bursting(Burst),

@@ -22,7 +22,7 @@ use mailboxes::Mailboxes;
 use settings::Settings;
 use transfer::Transfer;
 
-#[derive(Drop)]
+#[derive(Clone, Copy)]
 pub struct Card {
     pub settings: Settings,
     pub fifos: Fifos,
@@ -34,14 +34,14 @@ pub struct Card {
 }
 
 // What a caller who asks for a card gets: 0 or a refusal, and the card.
-#[derive(Drop)]
+#[derive(Clone, Copy)]
 pub struct NewCard {
     pub number: u8,
     pub card: Card,
 }
 
 // What an access gives: the record, and the answer.
-#[derive(Drop)]
+#[derive(Clone, Copy)]
 pub struct Outcome {
     pub card: Card,
     pub answer: Answer,

@@ -8,7 +8,7 @@ use phases::Total;
 use testing::{number_at, show};
 
 // What a case says of a burst before its phases: how many they are, and of a read how many places the list has.
-#[derive(Drop)]
+#[derive(Clone, Copy)]
 pub struct Burst {
     pub reads: bool,
     pub side: u8,

@@ -17,7 +17,7 @@ use transfer::{Request, Transfer};
 // READ
 
 // What a case begins with. `whole`: the input had not ended.
-#[derive(Drop)]
+#[derive(Clone, Copy)]
 pub struct Head {
     pub whole: bool,
     pub what: u32,

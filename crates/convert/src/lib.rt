@@ -9,7 +9,7 @@ use access_text::Line;
 use trace::Read;
 
 // The form that is read; the other is written.
-#[derive(Drop)]
+#[derive(Clone, Copy)]
 pub enum Form {
     Text,
     Trace,
@@ -28,7 +28,7 @@ impl Form {
 }
 
 // What an access that is turned gives: how many bytes of the input it has, where the output ends, and whether it was refused.
-#[derive(Drop)]
+#[derive(Clone, Copy)]
 struct Step {
     size: usize,
     end: usize,
@@ -113,7 +113,7 @@ fn turn_one(from: Form, input: &[u8], count: u64, out: &mut [u8], end: usize) ->
 
 // Where a chunk's conversion stands: the bytes from `at` on are left, none behind a refusal; where the output ends, the accesses turned in all, and
 // whether a refusal has stopped it.
-#[derive(Drop)]
+#[derive(Clone, Copy)]
 pub struct Converted {
     pub at: usize,
     pub end: usize,

@@ -14,7 +14,7 @@ fn output_buffer() -> [u8; 196605]
 }
 
 // Where an input's conversion stands: the bytes from `at` to `size` of the buffer are left.
-#[derive(Drop)]
+#[derive(Clone, Copy)]
 struct Place {
     at: usize,
     size: usize,

@@ -21,7 +21,7 @@ fn output_buffer() -> [u8; 196605]
 
 // How a chunk went: what was read of it, where its conversion stands, whether the output was lost in a write that failed, the records to be told of
 // where something failed, and whether more is to be read.
-#[derive(Drop)]
+#[derive(Clone, Copy)]
 struct Turn {
     chunk: Chunk,
     converted: Converted,

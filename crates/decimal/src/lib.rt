@@ -82,7 +82,7 @@ pub fn write_field(out: &mut [u8], at: usize, n: u64, after: u8) -> usize
 
 // What is read where a number should stand: whether one does, the number, and the place behind the byte after it. (As an enum it would go through
 // memory from one number to the next, which takes half as long again.)
-#[derive(Drop)]
+#[derive(Clone, Copy)]
 pub struct FieldRead {
     pub stands: bool,
     pub number: u64,
@@ -158,7 +158,7 @@ pub fn read_field(text: &[u8], at: usize, largest: u32, after: u8) -> FieldRead
 }
 
 // What is read of a text that should be a number and nothing else: whether it is one, and the number, 255 where it is larger.
-#[derive(Drop)]
+#[derive(Clone, Copy)]
 pub struct Whole {
     pub stands: bool,
     pub number: u8,

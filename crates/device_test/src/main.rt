@@ -25,7 +25,7 @@ fn access_of(bytes: &[u8]) -> Access {
 }
 
 // L4: a call is an access, or a register access.
-#[derive(Drop)]
+#[derive(Clone, Copy)]
 enum Call {
     Direct(Access),
     Register(u8, u32, u8, u32),

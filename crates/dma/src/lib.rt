@@ -12,7 +12,7 @@ use arbitration::Pair;
 use transfer::Request;
 
 // DMALBASE, DMAHBASE and DMASIZE, named as in a transfer; and DMACTL: the flags P and L, PI and W.
-#[derive(Drop)]
+#[derive(Clone, Copy)]
 pub struct Dma {
     pub shared: u32,
     pub pci: u32,
@@ -23,7 +23,7 @@ pub struct Dma {
 }
 
 // The three that a transfer is programmed in before it starts.
-#[derive(Drop)]
+#[derive(Clone, Copy)]
 pub enum Programmed {
     Dmalbase,
     Dmahbase,

@@ -35,7 +35,7 @@ pub fn write_entry(out: &mut [u8], at: usize, e: Entry) -> usize
 }
 
 // "The kept records (doubtful ones included), how many of them are doubtful, the bytes skipped."
-#[derive(Drop)]
+#[derive(Clone, Copy)]
 pub struct Tally {
     pub kept: u64,
     pub doubtful: u64,

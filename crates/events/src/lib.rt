@@ -10,7 +10,7 @@ ghost use Rattle.model.specs.Why.{reserved};
 ghost use Rattle.events.specs.Bridge.{register_as, raised_all};
 
 // A set of events: the bit at an event's position says whether it is in.
-#[derive(Drop)]
+#[derive(Clone, Copy)]
 pub struct EventSet(pub u32);
 
 pub const NONE: EventSet = EventSet(0);
@@ -119,7 +119,7 @@ pub fn reserved(side: u8, position: u8) -> bool
 }
 
 // An interrupt register: the enables, and the event status that is stored.
-#[derive(Drop)]
+#[derive(Clone, Copy)]
 pub struct Register {
     pub enables: EventSet,
     pub status: EventSet,

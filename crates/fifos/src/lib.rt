@@ -6,19 +6,19 @@ ghost use Rattle.model.specs.Why.{places};
 ghost use Rattle.fifos.specs.Bridge.{entries_as, fifos_as, put_on, put_as, taken_off, taken_as};
 
 // "Each FIFO holds 32 numbers of 32 bits": the first `count` entries, oldest first.
-#[derive(Drop)]
+#[derive(Clone, Copy)]
 pub struct Fifo {
     pub entries: [u32; 32],
     pub count: u32,
 }
 
-#[derive(Drop)]
+#[derive(Clone, Copy)]
 pub struct Fifos {
     pub each: [Fifo; 4],
 }
 
 // What a put gives: the FIFOs, how many entries the one holds after it, 32 where it was full, and whether the entry was kept.
-#[derive(Drop)]
+#[derive(Clone, Copy)]
 pub struct Put {
     pub fifos: Fifos,
     pub held: u32,
@@ -26,7 +26,7 @@ pub struct Put {
 }
 
 // What a take gives: the FIFOs, the oldest entry if there was one, and how many the one held before it.
-#[derive(Drop)]
+#[derive(Clone, Copy)]
 pub struct Taken {
     pub fifos: Fifos,
     pub entry: u32,

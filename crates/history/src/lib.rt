@@ -10,7 +10,7 @@ use fifos::Fifo;
 
 // The case by its name, never by a number that could be 0: a refusal with its number; never raised; cleared or set, with the record; entries held, with
 // their count.
-#[derive(Drop)]
+#[derive(Clone, Copy)]
 pub enum Case {
     Refused(u8),
     Never,
@@ -20,7 +20,7 @@ pub enum Case {
 }
 
 // The answer: the case, and beside it the entries held, oldest first, with the records that put them; 0 where unused.
-#[derive(Drop)]
+#[derive(Clone, Copy)]
 pub struct Explanation {
     pub case: Case,
     pub entries: [u32; 32],
@@ -39,7 +39,7 @@ pub fn refused(number: u8) -> Explanation
 }
 
 // What is known of a position: whether its bit is set, and by which record it came to be so or not; and the records that put the entries held.
-#[derive(Drop)]
+#[derive(Clone, Copy)]
 pub struct History {
     case: Case,
     puts: Fifo,

@@ -10,7 +10,7 @@ ghost use Rattle.interrupts.specs.Bridge.{interrupts_as, raised_both};
 use events::{EventSet, Register};
 
 // "HINT is the host's, LINT (0x04F4) the local side's."
-#[derive(Drop)]
+#[derive(Clone, Copy)]
 pub struct Interrupts {
     pub hint: Register,
     pub lint: Register,

@@ -8,7 +8,7 @@ ghost use Rattle.mailboxes.specs.Bridge.{mailboxes_as};
 use bays::BayIndex;
 
 // "HLDATA (0x04E8) goes from host to local, LHDATA (0x04F8) back." `lhwritten`: LHDATA was written since reset.
-#[derive(Drop)]
+#[derive(Clone, Copy)]
 pub struct Mailboxes {
     pub hldata: u32,
     pub lhdata: u32,

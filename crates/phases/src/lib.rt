@@ -12,7 +12,7 @@ ghost use Rattle.phases.specs.Bridge.{phase_as, phases_as, total_as, pins_fit, c
 use pins::Decoded;
 
 // What a burst answers: 0 or the number of a refusal, and V, the phases done. X is 0.
-#[derive(Drop)]
+#[derive(Clone, Copy)]
 pub struct Total {
     pub number: u8,
     pub v: u32,

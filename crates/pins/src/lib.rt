@@ -5,7 +5,7 @@ ghost use Rattle.model.specs.Pins.{lanes16, motorola_rows, lanes_of, decode};
 ghost use Rattle.pins.specs.Bridge.{decoded_as, one_lane, carried_in};
 
 // The number is 0, or that of a refusal.
-#[derive(Drop)]
+#[derive(Clone, Copy)]
 pub struct Decoded {
     pub number: u8,
     pub lanes: u8,

@@ -15,7 +15,7 @@ use standing::Standing;
 use trace::Read;
 
 // Where the text ends in the lent buffer, and where the replay stands then.
-#[derive(Drop)]
+#[derive(Clone, Copy)]
 pub struct Replayed {
     pub end: usize,
     pub standing: Standing,

@@ -6,7 +6,7 @@ ghost use Rattle.register_map.specs.Bridge.{resource_as};
 
 use dma::Programmed;
 
-#[derive(Drop)]
+#[derive(Clone, Copy)]
 pub enum Resource {
     // the FIFO that a read takes from, the one that a write puts into
     Port(u8, u8),

@@ -40,7 +40,7 @@ fn write_entry(list: &mut [u64], place: usize, e: Entry)
 }
 
 // What stands at a place of a list.
-#[derive(Drop)]
+#[derive(Clone, Copy)]
 pub enum Found {
     Entry(Entry),
     Nothing,
@@ -71,7 +71,7 @@ pub fn read_entry(list: &[u64], place: usize) -> Found
 // THE LIST
 
 // How far a list is filled: the entries in it, and whether there was one more that did not fit.
-#[derive(Drop)]
+#[derive(Clone, Copy)]
 struct Filled {
     count: usize,
     over: bool,
@@ -111,7 +111,7 @@ fn store_range(list: &mut [u64], filled: Filled, place: Place) -> Filled
 // THE SCAN
 
 // Where it stands: the place in the trace, the same with what the scan knows there, and how far the list is filled.
-#[derive(Drop)]
+#[derive(Clone, Copy)]
 struct Standing {
     at: usize,
     place: Place,
@@ -149,7 +149,7 @@ fn list_next(trace: &[u8], list: &mut [u64], s: Standing) -> Standing
 }
 
 // The number of entries, or the refusal's number alone.
-#[derive(Drop)]
+#[derive(Clone, Copy)]
 pub enum Listing {
     Count(usize),
     Refused(u8),

@@ -13,7 +13,7 @@ use entry_text::Tally;
 use scan::Place;
 
 // What is written of a trace: "a line an entry", or "the kept records anew as a trace numbered from 0".
-#[derive(Drop)]
+#[derive(Clone, Copy)]
 pub enum Output {
     Entries,
     Records,
@@ -78,7 +78,7 @@ fn write_kept(
 }
 
 // Where the rescue of a chunk stands: the bytes before `at` are passed, the output ends at `end`; the scan's place, and the entries that were listed.
-#[derive(Drop)]
+#[derive(Clone, Copy)]
 pub struct Rescued {
     pub at: usize,
     pub end: usize,

@@ -78,7 +78,7 @@ fn output_of(how: u32) -> Output {
 }
 
 // Where a trace's rescue stands: the bytes from `at` to `size` of the buffer are left.
-#[derive(Drop)]
+#[derive(Clone, Copy)]
 struct Portion {
     size: usize,
     rescued: Rescued,

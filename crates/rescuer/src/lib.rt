@@ -19,7 +19,7 @@ const LONGEST: usize = 20;
 
 // How a chunk went: what was read of it, where its rescue stands, whether the output was lost in a write that failed, the records to be told of where
 // something failed, and whether more is to be read.
-#[derive(Drop)]
+#[derive(Clone, Copy)]
 struct Turn {
     chunk: Chunk,
     rescued: Rescued,

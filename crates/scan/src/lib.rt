@@ -6,7 +6,7 @@ ghost use Rattle.model.specs.Rescue.{kept_at, skipped};
 ghost use Rattle.scan.specs.Bridge.{entry_as, place_as, Whole, FirstOf, Ahead};
 
 // "Kept records and skipped ranges", each with its place; a kept record with its number, a range with its length.
-#[derive(Drop)]
+#[derive(Clone, Copy)]
 pub enum Entry {
     Kept(u64, u64),
     Doubtful(u64, u64),
@@ -60,7 +60,7 @@ pub fn next_record(bytes: &[u8], at: usize, to: usize) -> usize
 }
 
 // Where a scan stands: `run` bytes behind `from`, where the last kept record ended; and the number that is expected next.
-#[derive(Drop)]
+#[derive(Clone, Copy)]
 pub struct Place {
     pub from: u64,
     pub run: u64,

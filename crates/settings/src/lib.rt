@@ -5,7 +5,7 @@ ghost use Rattle.model.specs.Settings.{zero_settings, settings_pass, lengths_fit
 ghost use Rattle.settings.specs.Bridge.{settings_as};
 
 // "Window base, window length, and a target-abort range given as two offsets lo and hi (lo included, hi not)."
-#[derive(Drop)]
+#[derive(Clone, Copy)]
 pub struct Settings {
     pub base: u32,
     pub length: u32,

@@ -10,7 +10,7 @@ use card::Card;
 use settings::Settings;
 
 // Where a replay stands: the card, the record number expected, the records answered, and whether a refusal of the reader has stopped it.
-#[derive(Drop)]
+#[derive(Clone, Copy)]
 pub struct Standing {
     pub card: Card,
     pub expected: u16,
@@ -19,7 +19,7 @@ pub struct Standing {
 }
 
 // What a record gives: the answer of its access, and where the replay stands then.
-#[derive(Drop)]
+#[derive(Clone, Copy)]
 pub struct Performed {
     pub answer: Answer,
     pub standing: Standing,

@@ -15,7 +15,7 @@ pub fn input_buffer() -> [u8; 65520]
 
 // What reading a chunk gave: so many bytes at the start of the buffer, those that were kept among them, and whether a read failed before the input
 // ended or the buffer was full.
-#[derive(Drop)]
+#[derive(Clone, Copy)]
 pub struct Chunk {
     pub size: usize,
     pub cut: bool,

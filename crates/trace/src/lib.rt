@@ -12,7 +12,7 @@ ghost use Rattle.trace.specs.Bridge.{read_as, damage, head_bytes, wrote_as};
 use access::Access;
 
 // "The trace reader answers a record or a refusal": the refusal's number alone.
-#[derive(Drop)]
+#[derive(Clone, Copy)]
 pub enum Read {
     Record(Access),
     Refused(u8),
@@ -125,7 +125,7 @@ pub fn next_number(n: u16) -> u16
 }
 
 // "It stores 20 bytes at the start of a lent buffer and answers the next number"; or the refusal's number alone.
-#[derive(Drop)]
+#[derive(Clone, Copy)]
 pub enum Write {
     Next(u16),
     Refused(u8),

@@ -6,7 +6,7 @@ ghost use Rattle.model.specs.Transfer.{idle, request_checks, is_idle, transfer_s
 ghost use Rattle.transfer.specs.Bridge.{request_as, transfer_as};
 
 // What a start asks for: S, A, B and C.
-#[derive(Drop)]
+#[derive(Clone, Copy)]
 pub struct Request {
     pub direction: u8,
     pub shared: u32,
@@ -38,7 +38,7 @@ impl Request {
 }
 
 // No transfer runs, or one of which so many dwords have been moved.
-#[derive(Drop)]
+#[derive(Clone, Copy)]
 pub enum Transfer {
     Idle,
     Running(Request, u32),

@@ -11,7 +11,7 @@ use stream::Chunk;
 // How a chunk went: what was read of it, where its text ends in the output buffer, where the replay stands then, whether the text was lost in a
 // write that failed, the records to be told of where something failed, and whether more is to be read. Its fields are private: a turn comes from
 // a chunk, or from before the first.
-#[derive(Drop)]
+#[derive(Clone, Copy)]
 pub struct Turn {
     chunk: Chunk,
     end: usize,

@@ -37,7 +37,7 @@ fn fifo_of(position: u8) -> usize
 }
 
 // What a card shows of a position: whether its bit is set, and how many entries its FIFO holds; 0 where it follows none.
-#[derive(Drop)]
+#[derive(Clone, Copy)]
 struct Shown {
     up: bool,
     held: u32,

@@ -44,7 +44,7 @@ fn read_trace(asked: bool, input: &mut [u8]) -> Chunk
 }
 
 // What was read of the trace, and what stands in the output buffer.
-#[derive(Drop)]
+#[derive(Clone, Copy)]
 struct Turn {
     chunk: Chunk,
     reply: Reply,

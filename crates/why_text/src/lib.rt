@@ -97,7 +97,7 @@ pub fn write_answer(out: &mut [u8], e: Explanation) -> usize
 }
 
 // What stands in the buffer: an answer for standard output, or the usage line for standard error; and where it ends.
-#[derive(Drop)]
+#[derive(Clone, Copy)]
 pub struct Reply {
     pub answered: bool,
     pub end: usize,
