@@ -4,11 +4,11 @@ use Rattle.std.proofs.Math.Path.{sym}
 use Rattle.std.proofs.Common.{◌∙◌, arith, drop-drop}
 use mathlib.Core.List.{List, [], ◌∷◌, ◌++◌, append_assoc, append-nil}
 use Rattle.std.proofs.Math.ListN.{length-append}
-use Rattle.model.specs.TestLaws.{no_both}
+use Rattle.model.proofs.TestLaws.{no_both}
 use Rattle.model.specs.Accesses.{Access}
 use Rattle.model.specs.Trace.{recorded, refused}
 use Rattle.model.specs.Text.{decimal_text, field_text, Field, ◌ended_by◌}
-use Rattle.model.specs.TextLaws.{digits_8, digits_32}
+use Rattle.model.proofs.TextLaws.{digits_8, digits_32}
 use Rattle.model.specs.AccessText.{access_of_numbers, access_line, read_fields, read_line}
 use Rattle.decimal.specs.declared.FieldRead.{FieldRead}
 use Rattle.decimal.specs.Bridge.{ReadAt}

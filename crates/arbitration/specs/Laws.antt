@@ -4,7 +4,7 @@ use Rattle.std.proofs.Common.{ap, sym, ◌∙◌, arith}
 use Rattle.std.proofs.Math.ListN.{get_or-map}
 use Rattle.model.specs.Sides.{Side}
 use Rattle.model.specs.Arbitration.{pair_of, with_flag, with_flag_of, pair_value, flags_value}
-use Rattle.model.specs.FourLaws.{four, map_set}
+use Rattle.model.proofs.FourLaws.{four, map_set}
 use Rattle.arbitration.specs.declared.Pair.{Pair}
 use Rattle.arbitration.specs.Bridge.{pair_as}
 

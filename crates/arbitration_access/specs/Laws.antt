@@ -6,7 +6,7 @@ use Rattle.model.specs.Arbitration.{Pair, pair_of, flag, with_flag_of}
 use Rattle.model.specs.State.{with_arbitration}
 use Rattle.model.specs.Changes.{flag_is, apply, nothing, Effect, done}
 use Rattle.model.specs.FifosAndFlags.{claimed}
-use Rattle.model.specs.TestLaws.{if_case}
+use Rattle.model.proofs.TestLaws.{if_case}
 use Rattle.access.specs.declared.Answer.TheVariants.{Done}
 use Rattle.arbitration.specs.declared.Arbitration.{Arbitration}
 use Rattle.arbitration.specs.Bridge.{arbitration_as}

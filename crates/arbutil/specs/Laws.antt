@@ -11,8 +11,8 @@ use Rattle.model.specs.Accesses as words
 use Rattle.model.specs.Accesses.{row}
 use Rattle.model.specs.RegisterMap.{arbutil}
 use Rattle.model.specs.Registers.{plainly, flag_written, write_row}
-use Rattle.model.specs.TestLaws.{if_case}
-use Rattle.model.specs.RegisterLaws.{flag_stores, Turned, in_turn, flags_in_turn}
+use Rattle.model.proofs.TestLaws.{if_case}
+use Rattle.model.proofs.RegisterLaws.{flag_stores, Turned, in_turn, flags_in_turn}
 use Rattle.access.specs.declared.Answer.{Answer}
 use Rattle.access.specs.declared.Answer.TheVariants.{Done}
 use Rattle.access.specs.Bridge.{answer_as}

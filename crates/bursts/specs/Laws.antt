@@ -6,10 +6,12 @@ use Rattle.model.specs.Choice.{if◌then◌else◌}
 use Rattle.model.specs.Checks.{refusal, above, shared_length}
 use Rattle.model.specs.Accesses.{fit}
 use Rattle.model.specs.Bursts.{Way, Burst, short, list_after}
-use Rattle.model.specs.TestLaws.{or_right}
-use Rattle.model.specs.CheckLaws.{passed_all}
-use Rattle.model.specs.Soundness.{fit_parts}
-use Rattle.model.specs.BurstLaws.{entries_from, shared_from, burst_refusal, accepted_is, refused_is}
+use Rattle.model.proofs.TestLaws.{or_right}
+use Rattle.model.proofs.CheckLaws.{passed_all}
+use Rattle.model.proofs.Soundness.{fit_parts}
+use Rattle.model.proofs.BurstLaws.{burst_refusal, accepted_is, refused_is}
+use Rattle.model.specs.Bursts.{shared_from}
+use Rattle.model.specs.Bursts.{entries_from}
 use Rattle.card.specs.declared.Card.{Card}
 use Rattle.card.specs.Bridge.{world_as}
 use Rattle.phases.specs.declared.Total.{Total}

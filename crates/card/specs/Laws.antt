@@ -16,9 +16,9 @@ use Rattle.model.specs.State.{State, World, sound, with_interrupts, fresh, fresh
 use Rattle.model.specs.Changes.{apply_all, raised_in_both, nothing, Effect, done}
 use Rattle.model.specs.Accesses as words
 use Rattle.model.specs.Accesses.{Kind, Row, row_of, settled}
-use Rattle.model.specs.KindLaws.{does}
-use Rattle.model.specs.CheckLaws.{Pass, passed}
-use Rattle.model.specs.Refusals.{row_ascending, settled_number}
+use Rattle.model.specs.Accesses.{does}
+use Rattle.model.proofs.CheckLaws.{Pass, passed}
+use Rattle.model.proofs.Refusals.{row_ascending, settled_number}
 use Rattle.access.specs.declared.Access.{Access}
 use Rattle.access.specs.declared.Answer.{Answer}
 use Rattle.access.specs.declared.Answer.TheVariants.{Done, Refused}

@@ -9,7 +9,7 @@ use Rattle.model.specs.Accesses.{Answer, access}
 use Rattle.model.specs.Accesses as accesses
 use Rattle.model.specs.Registers.{RegisterAccess}
 use Rattle.model.specs.Bursts.{Burst, singles, Told, total, burst}
-use Rattle.model.specs.BurstLaws.{burst_refusal}
+use Rattle.model.proofs.BurstLaws.{burst_refusal}
 use Rattle.model.specs.Calls.{Call, direct, register, bursting, plain, call}
 use Rattle.access.specs.declared.Access.{Access}
 use Rattle.access.specs.Bridge.{access_as, answer_as}
@@ -26,8 +26,8 @@ use Rattle.phases.specs.Bridge.{told_as}
 use Rattle.bursts.specs.Bridge.{Bursted}
 use Rattle.reordering.specs.Roles.{roles, moved, Undisturbed}
 use Rattle.reordering.specs.CallReordering.{Reply, noted, noted_action, quiet_call, flat}
-use Rattle.reordering.specs.CallExchange.{calls_move}
-use Rattle.reordering.specs.Flattening.{flat_calls_move}
+use Rattle.reordering.proofs.CallExchange.{calls_move}
+use Rattle.reordering.proofs.Flattening.{flat_calls_move}
 
 -- what a caller asked, and what he was told
 abbrev pub Asked : Type 0

@@ -4,13 +4,13 @@ use Rattle.std.proofs.Common.{sym, ap, ◌∙◌, append_assoc, append-nil, arit
 use Rattle.std.proofs.lemmas.List.Edits.{sets, sets-eq}
 use Rattle.std.proofs.Math.Seq.{drop-length}
 use Rattle.model.specs.Accesses.{Access}
-use Rattle.model.specs.TestLaws.{no_both}
-use Rattle.model.specs.LaneLaws.{from_place}
+use Rattle.model.proofs.TestLaws.{no_both}
+use Rattle.model.proofs.LaneLaws.{from_place}
 use Rattle.model.specs.Trace.{record_bytes, number_after, Reading, recorded, refused, read_record, Wrote, write_record}
 use Rattle.model.specs.AccessText.{read_line}
-use Rattle.model.specs.TraceLaws.{write_stores}
+use Rattle.model.proofs.TraceLaws.{write_stores}
 use Rattle.model.specs.Convert.{Form, convert}
-use Rattle.model.specs.ConvertLaws.{Readable, convert_none, convert_more, convert_refused, text_readable, trace_readable}
+use Rattle.model.proofs.ConvertLaws.{Readable, convert_none, convert_more, convert_refused, text_readable, trace_readable}
 use Rattle.trace.specs.declared.Write.{Write}
 use Rattle.trace.specs.declared.Write.TheVariants as write
 use Rattle.trace.specs.Bridge.{wrote_as}

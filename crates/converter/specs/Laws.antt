@@ -8,10 +8,10 @@ use mathlib.Core.List.{List, [], ◌∷◌, ◌++◌, flatten, append-nil}
 use Prim.Native.Nat.{ℕ, ◌+◌, ◌-◌, ◌<◌, ◌≤◌}
 use Rattle.std.proofs.Math.Nat.{sub-zero}
 use Rattle.model.specs.Choice.{if◌then◌else◌}
-use Rattle.model.specs.TestLaws.{or_right, no_both, if_case}
+use Rattle.model.proofs.TestLaws.{or_right, no_both, if_case}
 use Rattle.model.specs.Convert as model
 use Rattle.model.specs.Convert.{Place, convert, convert_on, beginning, convert_chunks}
-use Rattle.model.specs.ConvertLaws.{Readable, chunks_more, chunked, ahead}
+use Rattle.model.proofs.ConvertLaws.{Readable, chunks_more, chunked, ahead}
 use Rattle.decimal.specs.Laws.{text_there}
 use Rattle.stream.specs.declared.Chunk.{Chunk}
 use Rattle.stream.specs.Bridge.{Keeps, Reads, chunk_bytes, least_of, goes_on, broke_off}

@@ -3,10 +3,10 @@ use Rattle.std.specs.Prelude.{◌≡◌, refl, Bool, true, false, not, ◌&&◌,
 use Rattle.std.proofs.Common.{sym, ap, ◌∙◌, append_assoc, append-nil, arith, length-append, length-drop, drop_of_length-le, drop-cons, drop-drop, ne_eqb, eq-eqb, eqb-true, lt-ltb, ltb-true, ltb-false, leb-true, leb-false}
 use Rattle.std.proofs.lemmas.Bool.{eqb-false, not-true}
 use Rattle.model.specs.Choice.{if◌then◌else◌}
-use Rattle.model.specs.TestLaws.{no_both, and_left, and_right, and-true, or_left, or_right}
+use Rattle.model.proofs.TestLaws.{no_both, and_left, and_right, and-true, or_left, or_right}
 use Rattle.model.specs.Text as model
 use Rattle.model.specs.Text.{digit, decimal_text, field_text, is_digit, spelt, starts_with, read_field, read_decimal}
-use Rattle.model.specs.TextLaws.{one_digit, last_digit, front, digits_least, spelt_text, spelt_whole, starts_is, whole_read, whole_none, field_stands, field_unclosed, field_too_large, field_zero, field_none}
+use Rattle.model.proofs.TextLaws.{one_digit, last_digit, front, digits_least, spelt_text, spelt_whole, starts_is, whole_read, whole_none, field_stands, field_unclosed, field_too_large, field_zero, field_none}
 use Rattle.decimal.specs.Bridge.{digit_in, no_field, closed_at, ReadAt, capped, ReadWhole}
 
 -- THE DIGIT IN FRONT

@@ -3,7 +3,7 @@
 #![tactic(auto)]
 ghost use Rattle.std.specs.Prelude.{◌≡◌, false, [], ◌∷◌, ◌+◌, ◌<◌, ◌≤◌, length, drop};
 ghost use Rattle.model.specs.Text.{decimal_text, field_text, is_digit};
-ghost use Rattle.model.specs.TextLaws.{two_digits};
+ghost use Rattle.model.specs.Text.{two_digits};
 ghost use Rattle.decimal.specs.Bridge.{Written, no_field, digit_in, closed_at, ReadAt, capped, ReadWhole};
 
 fn write_byte(out: &mut [u8], at: usize, b: u8) -> usize

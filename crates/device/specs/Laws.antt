@@ -5,7 +5,7 @@ use Rattle.model.specs.Checks.{above}
 use Rattle.model.specs.Settings.{lengths_fit}
 use Rattle.model.specs.State.{sound}
 use Rattle.model.specs.Accesses.{kind_of, fit, access}
-use Rattle.model.specs.KindLaws.{refused_with, unfit_is, no_side_is, no_kind_is, kind_is}
+use Rattle.model.proofs.KindLaws.{refused_with, unfit_is, no_side_is, no_kind_is, kind_is}
 use Rattle.access.specs.declared.Access.{Access}
 use Rattle.access.specs.declared.Answer.TheVariants.{Refused}
 use Rattle.access.specs.Bridge.{access_as}

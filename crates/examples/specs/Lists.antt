@@ -14,9 +14,9 @@ use Rattle.model.specs.Bench.{q, d, g, p, bw, br, replay_settings, bench}
 use Rattle.reordering.specs.Roles.{TransferAction, roles, moved}
 use Rattle.reordering.specs.Reordering.{quiet, action_of, StepsMoveOf}
 use Rattle.reordering.specs.CallReordering.{noted, noted_action, quiet_call}
-use Rattle.reordering.specs.Premise.{undisturbed, premise}
-use Rattle.reordering.specs.Exchange.{steps_move}
-use Rattle.reordering.specs.CallExchange.{calls_move}
+use Rattle.reordering.proofs.Premise.{undisturbed, premise}
+use Rattle.reordering.proofs.Exchange.{steps_move}
+use Rattle.reordering.proofs.CallExchange.{calls_move}
 
 -- of any machine: where the premise computes to true, the moved list computes to `afterwards`
 module _ {Q R : Type 0} (machine : World → Q → Outcome R World) (action_of : Entry Q R → TransferAction Request) (quiet : Request → Entry Q R → Bool)

@@ -13,14 +13,14 @@ use Rattle.model.specs.Runs.{Outcome, Entry, run}
 use Rattle.model.specs.Accesses.{Access, Answer, access}
 use Rattle.model.specs.Registers.{register_access}
 use Rattle.model.specs.Calls.{Call}
-use Rattle.model.specs.TestLaws.{no_both}
+use Rattle.model.proofs.TestLaws.{no_both}
 use Rattle.model.specs.Pins.{decode}
 use Rattle.model.specs.Bursts.{burst}
 use Rattle.model.specs.Bench.{q, d, g, p, bw, br, replay_settings, bench}
 use Rattle.reordering.specs.Roles.{TransferAction, roles, moved}
 use Rattle.reordering.specs.Reordering.{Touch, starting, resetting, reading_interrupts, writing_interrupts, asking_line, reading, writing, touches, in_source, disturbs, action_of, StepsMoveOf, StepsMoveIf}
 use Rattle.reordering.specs.CallReordering.{Reply, noted, noted_action, call_touches, quiet_call, CallsMoveIf}
-use Rattle.reordering.specs.Premise.{undisturbed, premise}
+use Rattle.reordering.proofs.Premise.{undisturbed, premise}
 
 -- THE CONDITIONS, each with a number of its own
 

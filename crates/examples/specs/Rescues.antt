@@ -3,12 +3,13 @@ use Rattle.std.specs.Prelude.{◌≡◌, refl, ◌≢◌, true, false, List, [],
 use Rattle.std.proofs.Common.{ap, sym, ◌∙◌, arith}
 use Rattle.model.specs.Choice.{every}
 use Rattle.model.specs.Accesses.{Access}
-use Rattle.model.specs.TestLaws.{All, no_both}
+use Rattle.model.proofs.TestLaws.{no_both}
+use Rattle.model.specs.Choice.{All}
 use Rattle.model.specs.Trace.{recorded, read_record}
 use Rattle.model.specs.Convert.{trace_form, written}
 use Rattle.model.specs.Bench.{q}
 use Rattle.model.specs.Rescue.{scan, kept, skipped, listed, after, entries}
-use Rattle.model.specs.BoundaryLaws.{StandsAt, outside, stands_outside}
+use Rattle.model.proofs.BoundaryLaws.{StandsAt, outside, stands_outside}
 
 -- NEVER BACK
 

@@ -7,7 +7,7 @@ use Rattle.model.specs.Fifos.{entries_of, pushed_on, putter}
 use Rattle.model.specs.State.{with_fifos, with_interrupts}
 use Rattle.model.specs.Changes.{nothing, Effect}
 use Rattle.model.specs.FifosAndFlags.{overflow, taken_from, put_into}
-use Rattle.model.specs.TestLaws.{no_both, or-false, if_case}
+use Rattle.model.proofs.TestLaws.{no_both, or-false, if_case}
 use Rattle.access.specs.declared.Answer.TheVariants.{Done}
 use Rattle.fifos.specs.declared.Put.{Put}
 use Rattle.fifos.specs.declared.Taken.{Taken}

@@ -5,8 +5,8 @@ use Rattle.std.proofs.lemmas.List.{length-replicate, replicate-append-replicate,
 use Rattle.std.proofs.Math.ListN.{get_or-map}
 use Rattle.model.specs.Fifos as model
 use Rattle.model.specs.Fifos.{entries_of, popped_from}
-use Rattle.model.specs.TestLaws.{if_case}
-use Rattle.model.specs.FourLaws.{map_set}
+use Rattle.model.proofs.TestLaws.{if_case}
+use Rattle.model.proofs.FourLaws.{map_set}
 use Rattle.model.specs.Why.{places}
 use Rattle.fifos.specs.declared.Fifo.{Fifo}
 use Rattle.fifos.specs.Bridge.{entries_as, PutOn, put_on, taken_off}

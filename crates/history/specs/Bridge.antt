@@ -3,7 +3,11 @@ use Rattle.std.specs.Prelude.{◌≡◌, ◌⊎◌, Bool, true, false, List, [],
 use Rattle.model.specs.Choice.{if◌then◌else◌}
 use Rattle.model.specs.Why.{Holding, Reason, cleared_by, set_by, Answer, refused, because, Told}
 use Rattle.model.specs.Why as model
-use Rattle.model.specs.ReasonLaws.{is_up, held_by, turned, Moved, settled_by}
+use Rattle.model.specs.Why.{settled_by}
+use Rattle.model.specs.Why.{Moved}
+use Rattle.model.specs.Why.{turned}
+use Rattle.model.specs.Why.{held_by}
+use Rattle.model.specs.Why.{is_up}
 use Rattle.fifos.specs.Bridge.{entries_as}
 use Rattle.history.specs.declared.Case.{Case}
 use Rattle.history.specs.declared.Case.TheVariants as code

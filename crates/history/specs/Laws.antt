@@ -5,7 +5,12 @@ use Rattle.std.proofs.lemmas.List.{length-map}
 use Rattle.std.proofs.Math.Dec.{eqb-suc-zero}
 use Rattle.model.specs.Choice.{if◌then◌else◌}
 use Rattle.model.specs.Why.{Holding, Reason, because, places, told}
-use Rattle.model.specs.ReasonLaws.{is_up, held_by, turned, Moved, same, longer, shorter, emptied, settled_by}
+use Rattle.model.specs.Why.{same, longer, shorter, emptied}
+use Rattle.model.specs.Why.{settled_by}
+use Rattle.model.specs.Why.{Moved}
+use Rattle.model.specs.Why.{turned}
+use Rattle.model.specs.Why.{held_by}
+use Rattle.model.specs.Why.{is_up}
 use Rattle.fifos.specs.declared.Fifo.{Fifo}
 use Rattle.fifos.specs.Bridge.{entries_as}
 use Rattle.fifos.specs.Laws.{length_entries}

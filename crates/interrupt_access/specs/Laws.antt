@@ -11,8 +11,8 @@ use Rattle.model.specs.Fifos.{Fifos, entries_of}
 use Rattle.model.specs.Interrupts.{register_sound, register, register_value, active}
 use Rattle.model.specs.State.{sound, with_interrupts}
 use Rattle.model.specs.InterruptRegisters.{live_bit, live_of, register_read, line_active}
-use Rattle.model.specs.TestLaws.{and_left, and_right}
-use Rattle.model.specs.Soundness.{sound_parts_lem, register_sound_lem}
+use Rattle.model.proofs.TestLaws.{and_left, and_right}
+use Rattle.model.proofs.Soundness.{sound_parts_lem, register_sound_lem}
 use Rattle.model.specs.Interrupts as model
 use Rattle.fifos.specs.Bridge.{fifos_as}
 use Rattle.interrupts.specs.declared.Interrupts.{Interrupts}

@@ -5,7 +5,7 @@ use Rattle.std.proofs.lemmas.List.{set-get_or}
 use Rattle.std.proofs.lemmas.List.Edits.{sets}
 use Rattle.model.specs.Choice.{if◌then◌else◌}
 use Rattle.model.specs.Lanes.{bytes_of, enabled, lane_values, byte_at, stores, write_dword}
-use Rattle.model.specs.LaneLaws.{covers_from, values_same}
+use Rattle.model.proofs.LaneLaws.{covers_from, values_same}
 use Rattle.lanes.specs.Bridge.{merge}
 
 -- ALL LANES

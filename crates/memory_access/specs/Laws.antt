@@ -3,8 +3,8 @@ use Rattle.std.specs.Prelude.{◌≡◌, ℕ, ◌+◌}
 use Rattle.std.proofs.Common.{sym, ◌∙◌, lit≤, lit<}
 use Rattle.model.specs.Checks.{refusal, shared_length}
 use Rattle.model.specs.Sides.{side_of}
-use Rattle.model.specs.CheckLaws.{passed}
-use Rattle.model.specs.CauseLaws.{Placed, placed}
+use Rattle.model.proofs.CheckLaws.{passed}
+use Rattle.model.proofs.CauseLaws.{Placed, placed}
 use Rattle.access.specs.declared.Access.{Access}
 use Rattle.settings.specs.declared.Settings.{Settings}
 use Rattle.settings.specs.Bridge.{settings_as}

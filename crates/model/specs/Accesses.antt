@@ -199,3 +199,7 @@ settled (suc n) e w = record { answer = record { number = suc n; v = 0; x = 0 };
 
 unfoldable pub access : World → Access → Outcome Answer World
 access w q = settled (refusal (checks w q)) (row_of (kind_of q.kind) w q).effect w
+
+-- what one kind does, its own checks first
+unfoldable pub does : Kind → World → Access → Outcome Answer World
+does kind w q = settled (refusal (row_of kind w q).checks) (row_of kind w q).effect w

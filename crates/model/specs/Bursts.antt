@@ -3,6 +3,7 @@
 use Rattle.std.specs.Prelude.{Bool, true, false, not, ◌||◌, List, [], ◌∷◌, ◌++◌, map, ℕ, zero, suc, ◌+◌, ◌*◌, ◌/◌, get_or, length, drop, eqb, ltb}
 use Rattle.model.specs.Choice.{if◌then◌else◌, every}
 use Rattle.model.specs.Checks.{Check, ◌for◌, refusal, above}
+use Rattle.model.specs.Lanes.{read_dword, write_dword}
 use Rattle.model.specs.Sides.{local, side_of, not_by}
 use Rattle.model.specs.Events.{bit}
 use Rattle.model.specs.State.{World}
@@ -95,3 +96,27 @@ unfoldable pub burst : World → Burst → Outcome Told World
 burst w b =
     let ran = run access w (singles b) in
     record { answer = total (refusal (1 for not (fit w) ∷ burst_checks b)) b ran.entries; world = ran.world }
+
+-- its V, and what it leaves of shared memory
+abbrev pub value_in : Way → (mode d : ℕ) → Phase → (memory : List ℕ) → ℕ
+value_in (reads list) mode d p m = read_dword m (4 * d) (decode mode p.pins p.dq).lanes
+value_in writes mode d p m = 0
+
+abbrev pub left_by : Way → (mode d : ℕ) → Phase → (memory : List ℕ) → List ℕ
+left_by (reads list) mode d p m = m
+left_by writes mode d p m = write_dword m (4 * d) (decode mode p.pins p.dq).lanes (decode mode p.pins p.dq).dword
+
+abbrev pub done_entry : Way → (mode d : ℕ) → Phase → (memory : List ℕ) → Entry Access Answer
+done_entry way mode d p m = record { access = single way mode d p; answer = record { number = 0; v = value_in way mode d p m; x = 0 } }
+
+-- with their answers, and what they leave of shared memory
+abbrev pub entries_from : Way → (mode d : ℕ) → List Phase → (memory : List ℕ) → List (Entry Access Answer)
+entries_from way mode d [] m = []
+entries_from way mode d (p ∷ ps) m =
+    if above last_dword d
+    then []
+    else done_entry way mode d p m ∷ entries_from way mode (next mode p.pins d) ps (left_by way mode d p m)
+
+abbrev pub shared_from : Way → (mode d : ℕ) → List Phase → (memory : List ℕ) → List ℕ
+shared_from way mode d [] m = m
+shared_from way mode d (p ∷ ps) m = if above last_dword d then m else shared_from way mode (next mode p.pins d) ps (left_by way mode d p m)

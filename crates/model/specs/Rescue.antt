@@ -123,3 +123,20 @@ rescue trace list =
     if ltb places (length es)
     then record { answer = refused 60; list = numbers_of (take places es) ++ drop (3 * places) list }
     else record { answer = count (length es); list = numbers_of es ++ drop (3 * length es) list }
+
+-- the record that stands at the start of the bytes
+abbrev pub kept_first : (bytes : List ℕ) → Move
+kept_first bytes = keep (number_at 2 2 bytes) (access_at bytes)
+
+-- how many bytes moves pass
+abbrev pub size_of : Move → ℕ
+size_of (keep number q) = 20
+size_of skip = 1
+
+unfoldable pub sizes : List Move → ℕ
+sizes [] = 0
+sizes (m ∷ ms) = size_of m + sizes ms
+
+-- what a scan from a place lists of the bytes there, to their end
+unfoldable pub entries_from : Place → (bytes : List ℕ) → List Entry
+entries_from p bytes = listed p (moves bytes) ++ range (after p (moves bytes))

@@ -1,10 +1,11 @@
 -- Document 02, L7: why an event bit reads as it does at the end of a trace, told by the changes that its accesses make.
-use Rattle.std.specs.Prelude.{Bool, not, ◌&&◌, ◌||◌, List, [], ◌∷◌, ◌++◌, map, ℕ, zero, suc, ◌-◌, ◌/◌, length, drop, replicate, eqb}
+use Rattle.std.specs.Prelude.{Bool, true, false, not, ◌&&◌, ◌||◌, List, [], ◌∷◌, ◌++◌, map, ℕ, zero, suc, ◌-◌, ◌/◌, length, drop, replicate, eqb}
 use Rattle.model.specs.Choice.{if◌then◌else◌}
 use Rattle.model.specs.Checks.{Check, ◌for◌, refusal, above}
 use Rattle.model.specs.Sides.{Side, side_of, not_by}
 use Rattle.model.specs.Events.{position, inbound_post, outbound_post, bit, enable_mask}
-use Rattle.model.specs.State.{World}
+use Rattle.model.specs.Interrupts.{register}
+use Rattle.model.specs.State.{State, World}
 use Rattle.model.specs.Changes.{Change, all_fresh, pushed, popped, flag_is, mail_is, raised, cleared, enables_are, transfer_is, dma_is}
 use Rattle.model.specs.Accesses.{Access, kind_of, row_of, access}
 use Rattle.model.specs.Bench.{bench}
@@ -153,3 +154,37 @@ pub record Told : Type 0 where
 
 abbrev pub told : Answer → Told
 told a = record { answer = a; entries = places (map (λ h. h.entry) (holdings a)); records = places (map (λ h. h.put_by) (holdings a)) }
+
+-- whether a reason says that the bit is set
+abbrev pub is_up : Reason → Bool
+is_up never = false
+is_up (cleared_by n) = false
+is_up (set_by n) = true
+is_up (held hs) = true
+
+-- the entries that a reason says are held
+abbrev pub held_by : Reason → List Holding
+held_by never = []
+held_by (cleared_by n) = []
+held_by (set_by n) = []
+held_by (held hs) = hs
+
+-- a stored bit by its edges: record `n` raised it, cleared it, or left it
+abbrev pub turned : (n : ℕ) → (after : Bool) → Reason → Reason
+turned n after r = if after then (if is_up r then r else set_by n) else (if is_up r then cleared_by n else r)
+
+-- what record `n` makes of the entries held: the same; one more behind them, of its own; without the oldest; none
+pub data Moved (n : ℕ) (before : List Holding) : List Holding → Type 0 where
+  same : Moved n before before
+  longer : (entry : ℕ) → Moved n before (before ++ (record { entry = entry; put_by = n } ∷ []))
+  shorter : Moved n before (drop 1 before)
+  emptied : Moved n before []
+
+-- the reason by what is held then
+abbrev pub settled_by : (n : ℕ) → Reason → (after : List Holding) → Reason
+settled_by n r [] = if is_up r then cleared_by n else r
+settled_by n r (h ∷ hs) = held (h ∷ hs)
+
+-- the status bit of a side's register
+abbrev pub stored_bit : Side → (p : ℕ) → State → Bool
+stored_bit side p s = bit p (register side s.interrupts).status

@@ -5,7 +5,10 @@ ghost use Rattle.model.specs.Choice.{if◌then◌else◌};
 ghost use Rattle.model.specs.Checks.{refusal, above, shared_length};
 ghost use Rattle.model.specs.Pins.{decode};
 ghost use Rattle.model.specs.Bursts.{reads, writes, advances, next, last_dword, list_after};
-ghost use Rattle.model.specs.BurstLaws.{value_in, left_by, entries_from, shared_from};
+ghost use Rattle.model.specs.Bursts.{shared_from};
+ghost use Rattle.model.specs.Bursts.{entries_from};
+ghost use Rattle.model.specs.Bursts.{left_by};
+ghost use Rattle.model.specs.Bursts.{value_in};
 ghost use Rattle.pins.specs.Bridge.{decoded_as};
 ghost use Rattle.phases.specs.Bridge.{phase_as, phases_as, total_as, pins_fit, checks_of};
 

@@ -7,7 +7,7 @@ use Rattle.std.proofs.lemmas.Bool.{eqb-false}
 use Rattle.model.specs.Choice.{if◌then◌else◌}
 use Rattle.model.specs.Lanes.{bytes_of, byte_of, lane_values}
 use Rattle.model.specs.Pins.{motorola_rows}
-use Rattle.model.specs.TestLaws.{and_left, and_right, or_left}
+use Rattle.model.proofs.TestLaws.{and_left, and_right, or_left}
 use Rattle.pins.specs.Bridge.{one_lane, carried_in}
 
 -- WHAT THE LANES CARRY

@@ -4,10 +4,10 @@ use Rattle.std.proofs.Common.{arith, length-drop, drop-drop}
 use Rattle.std.proofs.lemmas.List.Edits.{sets}
 use Rattle.model.specs.Accesses.{Access, access}
 use Rattle.model.specs.Trace.{recorded, refused, read_record}
-use Rattle.model.specs.TraceLaws.{reading_number}
+use Rattle.model.specs.Trace.{reading_number}
 use Rattle.model.specs.Text.{log_text, line_text}
 use Rattle.model.specs.Replay.{Standing, Replayed, nothing_more, ◌and_then◌, answered, logged, replay_record, replay}
-use Rattle.model.specs.ReplayLaws.{replay_stopped, replay_none, replay_more}
+use Rattle.model.proofs.ReplayLaws.{replay_stopped, replay_none, replay_more}
 use Rattle.trace.specs.declared.Read.{Read}
 use Rattle.trace.specs.declared.Read.TheVariants.{Refused}
 use Rattle.trace.specs.Bridge.{read_as}

@@ -1,7 +1,7 @@
 // The replay: the records of a chunk, answered by the card and written as text.
 #![tactic(auto)]
 ghost use Rattle.std.specs.Prelude.{◌≡◌, ◌+◌, ◌*◌, ◌<◌, ◌≤◌, ◌^◌, length};
-ghost use Rattle.model.specs.TraceLaws.{reading_number};
+ghost use Rattle.model.specs.Trace.{reading_number};
 ghost use Rattle.model.specs.Text.{line_text};
 ghost use Rattle.model.specs.Replay.{records_in, replay, last_text};
 ghost use Rattle.access.specs.Bridge.{answer_as};

@@ -3,7 +3,8 @@ use Rattle.std.specs.Prelude.{◌≡◌, refl, true, ◌&&◌, List, [], ◌∷�
 use Rattle.std.proofs.Common.{ne_eqb, leb-true}
 use Rattle.model.specs.Checks.{multiple_of4}
 use Rattle.model.specs.RegisterMap.{Resource, unmodelled, registers, found_in}
-use Rattle.model.specs.TestLaws.{All, and_left, and_right}
+use Rattle.model.proofs.TestLaws.{and_left, and_right}
+use Rattle.model.specs.Choice.{All}
 
 module _ (offset : ℕ) where
   -- it is none of theirs, as the last arm of a match has it: what was known, then one after another

@@ -8,7 +8,7 @@ use Rattle.model.specs.Changes.{done}
 use Rattle.model.specs.Accesses.{Row, ◌⇒◌, fit, settled}
 use Rattle.model.specs.RegisterMap.{Resource, resource_at, is_modelled}
 use Rattle.model.specs.Registers.{RegisterAccess, read_row, write_row, register_row, register_access}
-use Rattle.model.specs.KindLaws.{refused_with}
+use Rattle.model.proofs.KindLaws.{refused_with}
 use Rattle.access.specs.declared.Answer.TheVariants.{Refused}
 use Rattle.card.specs.declared.Card.{Card}
 use Rattle.card.specs.declared.Outcome.{Outcome}

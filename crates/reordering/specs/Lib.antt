@@ -1,13 +1,3 @@
 pub mod Roles
 pub mod Reordering
 pub mod CallReordering
-pub mod Moving
-pub mod Commute
-pub mod Kinds
-pub mod Stepping
-pub mod Exchange
-pub mod BurstExchange
-pub mod CallExchange
-pub mod Premise
-pub mod Flattening
-pub mod Ending

@@ -11,11 +11,13 @@ use Rattle.std.proofs.Math.Seq.{take_all, drop-append-add, drop-drop, drop-lengt
 use Rattle.std.proofs.lemmas.List.{take-append-le}
 use borrow.Author.Tests.{lt-ltb, le-ltb, ltb-true, ltb-false, eqb-true, eqb-false}
 use Rattle.model.specs.Choice.{if◌then◌else◌}
-use Rattle.model.specs.TestLaws.{or_left, or_right}
+use Rattle.model.proofs.TestLaws.{or_left, or_right}
 use Rattle.model.specs.Trace.{next_number, number_at}
 use Rattle.model.specs.Rescue.{Entry, skipped, Place, range, kept_at, moved, listed, after, scan, entry_numbers, numbers_of, entries, count, refused, rescue}
-use Rattle.model.specs.LentListLaws.{entry_three, numbers_length, numbers_append}
-use Rattle.model.specs.ScanLaws.{kept_first, entries_from, entries_then}
+use Rattle.model.proofs.LentListLaws.{entry_three, numbers_length, numbers_append}
+use Rattle.model.proofs.ScanLaws.{entries_then}
+use Rattle.model.specs.Rescue.{entries_from}
+use Rattle.model.specs.Rescue.{kept_first}
 use Rattle.scan.specs.Bridge.{place_as, Ahead}
 use Rattle.scan.specs.Laws.{skips, behind, skips_listed, skips_after, up_to, record_listed, record_after, record_ahead}
 use Rattle.rescue.specs.declared.Filled.{Filled}

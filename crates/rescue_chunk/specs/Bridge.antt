@@ -6,7 +6,7 @@ use Rattle.model.specs.Rescue as model
 use Rattle.model.specs.Rescue.{Move, scan, range, kept_at, listed, after}
 use Rattle.model.specs.RescueText as told
 use Rattle.model.specs.RescueText.{entry_text, entry_lines, total_text, rescue_text, accesses_of, rescued_trace}
-use Rattle.model.specs.ScanLaws.{sizes}
+use Rattle.model.specs.Rescue.{sizes}
 use Rattle.decimal.specs.Bridge.{Written}
 use Rattle.scan.specs.declared.Place.{Place}
 use Rattle.scan.specs.Bridge.{place_as}

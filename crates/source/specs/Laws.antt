@@ -8,10 +8,10 @@ use Rattle.model.specs.Checks.{◌for◌, refusal, above, misplaced, shared_leng
 use Rattle.model.specs.Settings.{Settings, settings_pass, lengths_fit, outside_window}
 use Rattle.model.specs.Transfer.{Request, request_checks}
 use Rattle.model.specs.Source.{shared_memory, window_memory, leaves_window, source_checks, source_part, source}
-use Rattle.model.specs.TestLaws.{and_left, and_right, or_left}
-use Rattle.model.specs.CheckLaws.{refusal_append}
-use Rattle.model.specs.CauseLaws.{placed}
-use Rattle.model.specs.SourceLaws.{source_passed}
+use Rattle.model.proofs.TestLaws.{and_left, and_right, or_left}
+use Rattle.model.proofs.CheckLaws.{refusal_append}
+use Rattle.model.proofs.CauseLaws.{placed}
+use Rattle.model.proofs.SourceLaws.{source_passed}
 
 -- THE CHECKS
 

@@ -3,7 +3,7 @@ use Rattle.std.specs.Prelude.{◌≡◌, refl, ◌⊎◌, Bool, true, false, not
 use Rattle.std.proofs.Common.{sym, ap, ◌∙◌, inl, inr, add-zero, arith, add-one, length-drop, take-append-drop, length-take-le, take-suc, take-suc-set, take-take, take-add, drop_at, get_or-drop, drop-drop, drop-set-lt, eqb-true}
 use Rattle.std.proofs.lemmas.List.{take-append-le}
 use Rattle.std.proofs.lemmas.Bool.{eqb-false, not-true}
-use Rattle.model.specs.TestLaws.{and_left, and_right, or_left, or_right, no_both}
+use Rattle.model.proofs.TestLaws.{and_left, and_right, or_left, or_right, no_both}
 use Rattle.stream.specs.declared.Chunk.{Chunk}
 use Rattle.stream.specs.Bridge.{Keeps, chunk_bytes, goes_on, broke_off}
 

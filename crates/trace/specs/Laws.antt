@@ -7,7 +7,7 @@ use Rattle.model.specs.Checks.{◌for◌, refusal}
 use Rattle.model.specs.Lanes.{dword_of, write_dword}
 use Rattle.model.specs.Accesses.{Access}
 use Rattle.model.specs.Trace.{record_bytes, next_number, trace_checks, next, write_record}
-use Rattle.model.specs.TraceLaws.{write_stores}
+use Rattle.model.proofs.TraceLaws.{write_stores}
 use Rattle.model.specs.Rescue.{stands}
 use Rattle.trace.specs.Bridge.{record_number, damage, head_bytes}
 

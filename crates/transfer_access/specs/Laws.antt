@@ -13,9 +13,9 @@ use Rattle.model.specs.State.{with_interrupts, with_transfer}
 use Rattle.model.specs.Changes.{Store, Effect, ◌storing◌, transfer_is, done}
 use Rattle.model.specs.Steps.{stepped}
 use Rattle.model.specs.Accesses.{row_of, fit}
-use Rattle.model.specs.TestLaws.{or_left, or_right}
-use Rattle.model.specs.CauseLaws.{placed}
-use Rattle.model.specs.Soundness.{sound_parts_lem, sound_transfer, fit_parts}
+use Rattle.model.proofs.TestLaws.{or_left, or_right}
+use Rattle.model.proofs.CauseLaws.{placed}
+use Rattle.model.proofs.Soundness.{sound_parts_lem, sound_transfer, fit_parts}
 use Rattle.model.specs.Transfer as model
 use Rattle.model.specs.Accesses as kinds
 use Rattle.access.specs.declared.Access.{Access}

@@ -4,7 +4,7 @@ use Rattle.std.proofs.Common.{sym, ◌∙◌, arith, length-take-le, eqb→eq}
 use Rattle.std.proofs.Math.Nat.{sub-zero}
 use Rattle.std.proofs.lemmas.Bool.{not-true}
 use Rattle.model.specs.Choice.{if◌then◌else◌}
-use Rattle.model.specs.TestLaws.{and_left, and_right}
+use Rattle.model.proofs.TestLaws.{and_left, and_right}
 use Rattle.model.specs.Replay.{Standing, replay}
 use Rattle.decimal.specs.Laws.{text_there}
 use Rattle.standing.specs.Bridge.{standing_as}

@@ -4,7 +4,7 @@ use Rattle.model.specs.Choice.{if◌then◌else◌}
 use Rattle.model.specs.Sides.{Side}
 use Rattle.model.specs.Fifos.{entries_of}
 use Rattle.model.specs.State.{State}
-use Rattle.model.specs.ReasonLaws.{stored_bit}
+use Rattle.model.specs.Why.{stored_bit}
 use Rattle.why.specs.declared.Shown.{Shown}
 
 abbrev pub is_live : (p : ℕ) → Bool

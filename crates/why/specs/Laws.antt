@@ -16,15 +16,20 @@ use Rattle.model.specs.Accesses as words
 use Rattle.model.specs.Accesses.{fit, access}
 use Rattle.model.specs.Bench.{bench}
 use Rattle.model.specs.Trace.{Reading, recorded, refused, read_record, access_at}
-use Rattle.model.specs.TraceLaws.{recorded_is}
+use Rattle.model.proofs.TraceLaws.{recorded_is}
 use Rattle.model.specs.Replay.{Standing, moved_on, answered, logged, replay, replay_start}
-use Rattle.model.specs.ReplayLaws.{replay_stopped, replay_none, replay_more}
-use Rattle.model.specs.TestLaws.{and_left, or_left, or_right, if_case}
-use Rattle.model.specs.EventLaws.{no_bit, bit_insert}
-use Rattle.model.specs.Soundness.{sound_parts_lem, fit_parts, fifo_sound_lem, stays, stays_fit}
+use Rattle.model.proofs.ReplayLaws.{replay_stopped, replay_none, replay_more}
+use Rattle.model.proofs.TestLaws.{and_left, or_left, or_right, if_case}
+use Rattle.model.proofs.EventLaws.{no_bit, bit_insert}
+use Rattle.model.proofs.Soundness.{sound_parts_lem, fit_parts, fifo_sound_lem, stays, stays_fit}
 use Rattle.model.specs.Why.{Reason, never, noted_all, changes_by, history, accesses_from, accesses_in, follows, reserved, places, because, why}
 use Rattle.model.specs.Why as model
-use Rattle.model.specs.ReasonLaws.{is_up, is_held, held_by, stored_bit, Stored, Says, stored_step, Moved, same, Live, Tells, live_step}
+use Rattle.model.specs.Why.{same}
+use Rattle.model.proofs.ReasonLaws.{is_held, Stored, Says, stored_step, Live, Tells, live_step}
+use Rattle.model.specs.Why.{stored_bit}
+use Rattle.model.specs.Why.{Moved}
+use Rattle.model.specs.Why.{held_by}
+use Rattle.model.specs.Why.{is_up}
 use Rattle.fifos.specs.Bridge.{fifos_as}
 use Rattle.fifos.specs.Laws.{length_entries}
 use Rattle.interrupts.specs.Bridge.{interrupts_as}

@@ -7,7 +7,7 @@ use Rattle.std.proofs.lemmas.List.Edits.{sets}
 use Rattle.model.specs.Choice.{if◌then◌else◌}
 use Rattle.model.specs.Checks.{above}
 use Rattle.model.specs.Text.{FieldReading, number, unreadable, read_decimal}
-use Rattle.model.specs.TestLaws.{no_both, and_left, and_right}
+use Rattle.model.proofs.TestLaws.{no_both, and_left, and_right}
 use Rattle.model.specs.Why.{Reason, Answer, answered_by, why, holdings, places, told}
 use Rattle.model.specs.WhyText.{holding_text, holding_lines, answer_text, answered, usage, output, why_output}
 use Rattle.decimal.specs.declared.Whole.{Whole}

@@ -2,7 +2,7 @@
 use mathlib.Core.Path.{◌≡◌}
 use lib.ListN.{length}
 use Rattle.model.specs.Arbitration.{pair_sound}
-use Rattle.model.specs.FourLaws.{every_four}
+use Rattle.model.proofs.FourLaws.{every_four}
 use Rattle.arbitration.specs.Bridge.{pair_as}
 use Rattle.arbitration.specs.Laws.{no_pair}
 use borrow.Author.Rules.{rules}

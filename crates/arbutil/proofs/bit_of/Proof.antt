@@ -1,6 +1,6 @@
 -- `arbutil::bit_of` meets its contract: by the side.
 use native.Mathlib.Omega.{arith}
-use Rattle.model.specs.SideLaws.{side_host, side_local}
+use Rattle.model.proofs.SideLaws.{side_host, side_local}
 use borrow.Author.Rules.{rules}
 use Rattle.arbutil.proofs.bit_of.Statement.{statement}
 use Rattle.arbutil.proofs.bit_of.Tie as tie

@@ -4,7 +4,7 @@ use mathlib.Core.Bool.{false}
 use Rattle.model.specs.State.{World}
 use Rattle.model.specs.Accesses.{fit}
 use Rattle.model.specs.Bursts.{Burst, writes}
-use Rattle.model.specs.BurstLaws.{burst_refusal}
+use Rattle.model.proofs.BurstLaws.{burst_refusal}
 use Rattle.card.specs.Bridge.{world_as}
 use Rattle.phases.specs.Bridge.{phases_as}
 use Rattle.phases.specs.Laws.{phases_count}

@@ -5,7 +5,7 @@ use Prim.Native.Nat.{◌+◌, ◌-◌, ◌*◌, ◌≤◌}
 use native.Mathlib.Omega.{arith}
 use lib.ListN.{length, drop, length-drop}
 use borrow.Author.Rules.{rules}
-use Rattle.model.specs.LaneLaws.{from_place}
+use Rattle.model.proofs.LaneLaws.{from_place}
 use Rattle.convert.specs.Bridge.{form_as, other_as, AccessTurned}
 use Rattle.convert.specs.Laws.{readable, far, Left, all_left, none_left, one_less, refused_left}
 use Rattle.convert.proofs.convert_chunk.Statement.{statement}

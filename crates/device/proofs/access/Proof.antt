@@ -8,7 +8,7 @@ use borrow.Author.Tests.{not-true, not-false, lt-ltb, le-ltb}
 use Rattle.model.specs.Checks.{above}
 use Rattle.model.specs.State.{World}
 use Rattle.model.specs.Accesses.{kind_of, fit}
-use Rattle.model.specs.Soundness.{Fit, fit_parts}
+use Rattle.model.proofs.Soundness.{Fit, fit_parts}
 use Rattle.card.specs.declared.Outcome.{Outcome}
 use Rattle.card.specs.Bridge.{state_as, world_as, Did}
 use Rattle.device.specs.Bridge.{Accessed}

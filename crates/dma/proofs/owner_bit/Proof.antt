@@ -1,5 +1,5 @@
 -- `dma::owner_bit` meets its contract: by the side.
-use Rattle.model.specs.SideLaws.{side_host, side_local}
+use Rattle.model.proofs.SideLaws.{side_host, side_local}
 use Rattle.dma.proofs.owner_bit.Statement.{statement}
 use Rattle.dma.proofs.owner_bit.Tie as tie
 

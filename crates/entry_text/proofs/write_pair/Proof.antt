@@ -4,7 +4,7 @@ use native.Mathlib.Omega.{arith}
 use lib.ListN.{length}
 use borrow.Author.Rules.{rules}
 use Rattle.model.specs.Text.{decimal_text}
-use Rattle.model.specs.TextLaws.{digits_64}
+use Rattle.model.proofs.TextLaws.{digits_64}
 use Rattle.decimal.specs.Laws.{then}
 use Rattle.entry_text.proofs.write_pair.Statement.{statement}
 use Rattle.entry_text.proofs.write_pair.Tie as tie

@@ -5,7 +5,7 @@ use lib.ListN.{length}
 use borrow.Author.Rules.{rules}
 use Rattle.model.specs.Text.{decimal_text}
 use Rattle.model.specs.RescueText.{total_text}
-use Rattle.model.specs.TextLaws.{digits_64}
+use Rattle.model.proofs.TextLaws.{digits_64}
 use Rattle.decimal.specs.Laws.{then}
 use Rattle.entry_text.proofs.write_totals.Statement.{statement}
 use Rattle.entry_text.proofs.write_totals.Tie as tie

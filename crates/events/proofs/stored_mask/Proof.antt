@@ -1,5 +1,5 @@
 -- `events::stored_mask` meets its contract: either side's mask is the constants joined.
-use Rattle.model.specs.SideLaws.{side_host, side_local}
+use Rattle.model.proofs.SideLaws.{side_host, side_local}
 use borrow.Author.Rules.{rules}
 use Rattle.events.proofs.stored_mask.Statement.{statement}
 use Rattle.events.proofs.stored_mask.Tie as tie

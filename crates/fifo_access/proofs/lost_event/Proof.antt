@@ -1,5 +1,5 @@
 -- `fifo_access::lost_event` meets its contract: by the side.
-use Rattle.model.specs.SideLaws.{side_host, side_local}
+use Rattle.model.proofs.SideLaws.{side_host, side_local}
 use Rattle.fifo_access.proofs.lost_event.Statement.{statement}
 use Rattle.fifo_access.proofs.lost_event.Tie as tie
 

@@ -4,7 +4,7 @@ use Prim.Native.Nat.{◌≤◌}
 use native.Mathlib.Omega.{arith}
 use borrow.Author.Tests.{lt-ltb, le-ltb, ltb-false}
 use Rattle.model.specs.Pins.{decode}
-use Rattle.model.specs.PinLaws.{decode_is}
+use Rattle.model.proofs.PinLaws.{decode_is}
 use borrow.Author.Rules.{rules}
 use Rattle.pins.proofs.decode.Statement.{statement}
 use Rattle.pins.proofs.decode.Tie as tie

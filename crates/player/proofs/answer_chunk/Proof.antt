@@ -8,11 +8,11 @@ use borrow.Author.Rules.{rules}
 use lib.ListN.{length, drop}
 use Rattle.model.specs.Trace.{read_record}
 use Rattle.model.specs.Replay.{records_in, replay}
-use Rattle.model.specs.ReplayLaws.{replay_stopped}
+use Rattle.model.proofs.ReplayLaws.{replay_stopped}
 use Rattle.trace.specs.Bridge.{read_as}
 use Rattle.standing.specs.Bridge.{standing_as, performed_as}
 use Rattle.standing.specs.Laws.{counted, stop_counted}
-use Rattle.model.specs.LaneLaws.{from_place}
+use Rattle.model.proofs.LaneLaws.{from_place}
 use Rattle.player.specs.Laws.{Left, all_left, none_left, answered_left, refused_left, read_refused}
 use Rattle.player.proofs.answer_chunk.Statement.{statement}
 use Rattle.player.proofs.answer_chunk.Tie as tie

@@ -6,7 +6,7 @@ use Rattle.model.specs.Checks.{above}
 use Rattle.model.specs.State.{World}
 use Rattle.model.specs.Accesses.{fit}
 use Rattle.model.specs.RegisterMap.{is_modelled}
-use Rattle.model.specs.Soundness.{Fit, fit_parts}
+use Rattle.model.proofs.Soundness.{Fit, fit_parts}
 use Rattle.register_map.specs.Bridge.{resource_as}
 use Rattle.card.specs.Bridge.{world_as}
 use Rattle.registers.specs.Laws.{unfit_arm, side_arm, offset_arm, read_arm, write_arm, direction_arm}

@@ -3,7 +3,7 @@ use Prim.Native.Nat.{◌≤◌}
 use native.Mathlib.Omega.{arith}
 use lib.ListN.{length}
 use Rattle.model.specs.Text.{decimal_text}
-use Rattle.model.specs.TextLaws.{digits_64}
+use Rattle.model.proofs.TextLaws.{digits_64}
 use Rattle.report.specs.Bridge.{failed_text}
 use Rattle.decimal.specs.Laws.{then}
 use borrow.Author.Rules.{rules}

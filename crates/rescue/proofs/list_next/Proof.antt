@@ -4,7 +4,7 @@ use Prim.Native.Nat.{◌+◌, ◌≤◌, ◌<◌, ◌^◌}
 use native.Mathlib.Omega.{arith}
 use lib.ListN.{length, length-drop}
 use borrow.Author.Rules.{rules}
-use Rattle.model.specs.LaneLaws.{from_place}
+use Rattle.model.proofs.LaneLaws.{from_place}
 use Rattle.scan.specs.Bridge.{Ahead}
 use Rattle.scan.specs.Laws.{record_within}
 use Rattle.rescue.specs.Laws.{half_skipped, half_listed}

@@ -8,7 +8,7 @@ use borrow.Author.Rules.{rules}
 use borrow.Author.Tests.{ltb-true}
 use mathlib.Core.Bool.{Bool, true, false, not}
 use Rattle.model.specs.Choice.{if◌then◌else◌}
-use Rattle.model.specs.TestLaws.{and_left}
+use Rattle.model.proofs.TestLaws.{and_left}
 use Rattle.model.specs.Rescue.{count, refused, rescue}
 use Rattle.rescue.specs.Bridge.{Stands, Half}
 use Rattle.rescue.specs.Laws.{all_ahead, why_ended, all_listed}

@@ -5,7 +5,7 @@ use lib.Dec.{eqb}
 use lib.ListN.{length}
 use borrow.Author.Rules.{rules}
 use borrow.Author.Tests.{eqb-false}
-use Rattle.model.specs.TestLaws.{or_right}
+use Rattle.model.proofs.TestLaws.{or_right}
 use Rattle.scan.specs.Bridge.{entry_as}
 use Rattle.rescue.specs.Laws.{no_place, one_held}
 use Rattle.rescue.proofs.store.Statement.{statement}

@@ -4,7 +4,7 @@ use Prim.Native.Nat.{ℕ, ◌+◌, ◌-◌, ◌≤◌, ◌<◌, ◌^◌}
 use native.Mathlib.Omega.{arith}
 use lib.ListN.{length, drop, length-drop}
 use borrow.Author.Rules.{rules}
-use Rattle.model.specs.LaneLaws.{from_place}
+use Rattle.model.proofs.LaneLaws.{from_place}
 use Rattle.scan.specs.declared.Place.{Place}
 use Rattle.scan.specs.Bridge.{place_as, Ahead}
 use Rattle.scan.specs.Laws.{record_within, record_ahead}

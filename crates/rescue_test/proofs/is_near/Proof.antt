@@ -2,7 +2,7 @@
 use lib.Dec.{ltb}
 use native.Mathlib.Omega.{arith}
 use borrow.Author.Tests.{ltb-true}
-use Rattle.model.specs.TestLaws.{and_left, and_right}
+use Rattle.model.proofs.TestLaws.{and_left, and_right}
 use Rattle.rescue_test.proofs.is_near.Statement.{statement}
 use Rattle.rescue_test.proofs.is_near.Tie as tie
 

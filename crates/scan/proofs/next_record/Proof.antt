@@ -8,7 +8,7 @@ use lib.ListN.{drop, length-drop}
 use lib.Seq.{drop-drop}
 use borrow.Author.Rules.{rules}
 use borrow.Author.Tests.{ltb-true, ltb-false}
-use Rattle.model.specs.LaneLaws.{from_place}
+use Rattle.model.proofs.LaneLaws.{from_place}
 use Rattle.model.specs.Rescue.{stands}
 use Rattle.scan.specs.Bridge.{FirstOf}
 use Rattle.scan.specs.Laws.{passed, no_room}

@@ -1,7 +1,7 @@
 -- `read_record` meets its contract: by whether the refusal is 0; what is not refused with 20 has 20 bytes.
 use Rattle.std.proofs.Common.{◌∙◌, arith, rules, ne_eqb}
 use Rattle.model.specs.Trace.{read_record}
-use Rattle.model.specs.TraceLaws.{record_whole}
+use Rattle.model.proofs.TraceLaws.{record_whole}
 use Rattle.trace.proofs.read_record.Statement.{statement}
 use Rattle.trace.proofs.read_record.Tie as tie
 

@@ -1,6 +1,6 @@
 -- `refusal_of` meets its contract: the number is looked at where the bytes are enough, and counts where the mark is right.
 use Rattle.std.proofs.Common.{◌≤◌, length, ◌∙◌, rules, eq-eqb, ne_eqb}
-use Rattle.model.specs.TraceLaws.{record_whole}
+use Rattle.model.proofs.TraceLaws.{record_whole}
 use Rattle.trace.specs.Laws.{numbered}
 use Rattle.trace.proofs.refusal_of.Statement.{statement}
 use Rattle.trace.proofs.refusal_of.Tie as tie

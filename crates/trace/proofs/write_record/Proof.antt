@@ -1,6 +1,6 @@
 -- A record is stored part by part: the bytes are those of the definition, and none behind them changes.
 use Rattle.std.proofs.Common.{sym, rules}
-use Rattle.model.specs.TraceLaws.{write_refuses}
+use Rattle.model.proofs.TraceLaws.{write_refuses}
 use Rattle.trace.specs.Laws.{stored}
 use Rattle.access.specs.Bridge.{access_as}
 use Rattle.trace.proofs.write_record.Statement.{statement}

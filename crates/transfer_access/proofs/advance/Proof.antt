@@ -5,7 +5,7 @@ use native.Mathlib.Omega.{arith}
 use borrow.Author.Tests.{eq-eqb, ne_eqb}
 use Rattle.model.specs.Events.{dma_complete, target_abort, master_abort}
 use Rattle.model.specs.Transfer.{Request}
-use Rattle.model.specs.CauseLaws.{Placed, placed}
+use Rattle.model.proofs.CauseLaws.{Placed, placed}
 use Rattle.transfer.specs.Bridge.{request_as}
 use Rattle.transfer_access.specs.Laws.{step_aborts, step_outside, step_copies}
 use borrow.Author.Rules.{rules}

@@ -7,7 +7,7 @@ use borrow.Author.Tests.{ltb-false}
 use lib.ListN.{length, drop}
 use Rattle.model.specs.Sides.{side_of}
 use Rattle.model.specs.Trace.{read_record}
-use Rattle.model.specs.LaneLaws.{from_place}
+use Rattle.model.proofs.LaneLaws.{from_place}
 use Rattle.model.specs.Why.{places, told}
 use Rattle.trace.specs.Bridge.{read_as}
 use Rattle.standing.specs.Bridge.{standing_as, performed_as}

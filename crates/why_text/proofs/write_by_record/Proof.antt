@@ -3,7 +3,7 @@ use Prim.Native.Nat.{◌≤◌}
 use native.Mathlib.Omega.{arith}
 use lib.ListN.{length}
 use Rattle.model.specs.Text.{decimal_text}
-use Rattle.model.specs.TextLaws.{digits_32}
+use Rattle.model.proofs.TextLaws.{digits_32}
 use Rattle.decimal.specs.Laws.{then}
 use borrow.Author.Rules.{rules}
 use Rattle.why_text.proofs.write_by_record.Statement.{statement}

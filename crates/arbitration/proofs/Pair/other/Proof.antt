@@ -1,5 +1,5 @@
 -- `arbitration::Pair::other` meets its contract: by the side.
-use Rattle.model.specs.SideLaws.{side_local}
+use Rattle.model.proofs.SideLaws.{side_local}
 use borrow.Author.Rules.{rules}
 use Rattle.arbitration.proofs.Pair.other.Statement.{statement}
 use Rattle.arbitration.proofs.Pair.other.Tie as tie

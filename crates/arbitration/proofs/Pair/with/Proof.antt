@@ -1,5 +1,5 @@
 -- `arbitration::Pair::with` meets its contract: by the side.
-use Rattle.model.specs.SideLaws.{side_host, side_local}
+use Rattle.model.proofs.SideLaws.{side_host, side_local}
 use Rattle.arbitration.proofs.Pair.with.Statement.{statement}
 use Rattle.arbitration.proofs.Pair.with.Tie as tie
 

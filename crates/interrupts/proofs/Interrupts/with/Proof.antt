@@ -1,5 +1,5 @@
 -- `interrupts::Interrupts::with` meets its contract: by the side.
-use Rattle.model.specs.SideLaws.{side_host, side_local}
+use Rattle.model.proofs.SideLaws.{side_host, side_local}
 use Rattle.interrupts.proofs.Interrupts.with.Statement.{statement}
 use Rattle.interrupts.proofs.Interrupts.with.Tie as tie
 

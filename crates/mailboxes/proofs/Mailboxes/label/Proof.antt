@@ -1,6 +1,6 @@
 -- `mailboxes::Mailboxes::label` meets its contract: on a host read of a mailbox written since reset, the label that the bay has.
 use mathlib.Core.Path.{ap, ◌∙◌}
-use Rattle.model.specs.SideLaws.{side_host, side_local}
+use Rattle.model.proofs.SideLaws.{side_host, side_local}
 use Rattle.bays.specs.Bridge.{label_at}
 use Rattle.mailboxes.specs.Bridge.{mailboxes_as}
 use Rattle.mailboxes.specs.Laws.{label_host}

@@ -1,5 +1,5 @@
 -- `mailboxes::Mailboxes::read` meets its contract: by the side.
-use Rattle.model.specs.SideLaws.{side_local}
+use Rattle.model.proofs.SideLaws.{side_local}
 use borrow.Author.Rules.{rules}
 use Rattle.mailboxes.proofs.Mailboxes.read.Statement.{statement}
 use Rattle.mailboxes.proofs.Mailboxes.read.Tie as tie

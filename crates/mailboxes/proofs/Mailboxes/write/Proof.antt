@@ -1,5 +1,5 @@
 -- `mailboxes::Mailboxes::write` meets its contract: by the side.
-use Rattle.model.specs.SideLaws.{side_host, side_local}
+use Rattle.model.proofs.SideLaws.{side_host, side_local}
 use Rattle.mailboxes.proofs.Mailboxes.write.Statement.{statement}
 use Rattle.mailboxes.proofs.Mailboxes.write.Tie as tie
 

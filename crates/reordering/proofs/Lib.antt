@@ -1,0 +1,10 @@
+pub mod Moving
+pub mod Commute
+pub mod PlainKinds
+pub mod Stepping
+pub mod Exchange
+pub mod BurstExchange
+pub mod CallExchange
+pub mod Premise
+pub mod Flattening
+pub mod Ending
