@@ -6,6 +6,7 @@ use Rattle.model.specs.Lanes.{read_dword}
 use Rattle.model.specs.Sides.{Side, host, local}
 use Rattle.model.specs.Events.{Event}
 use Rattle.model.specs.Interrupts.{on_register}
+use Rattle.model.specs.Transfer.{Transfer}
 use Rattle.model.specs.State.{State, World, with_interrupts}
 use Rattle.model.specs.Changes.{Change, all_fresh, pushed, popped, flag_is, mail_is, raised, cleared, enables_are, transfer_is, dma_is, apply, apply_all, Store, nothing, to_shared, to_window, shared_after, window_after, Effect, world_after}
 use Rattle.model.specs.Choice.{All}
@@ -46,17 +47,41 @@ raise_raise host local d e s = refl
 raise_raise local host d e s = refl
 raise_raise local local d e s = ap (λ n. with_interrupts (on_register local (λ r. record { enables = r.enables; status = n }) s.interrupts) s) (insert_comm s.interrupts.lint.status e d)
 
+swap_raised : (c : Change) → Plain c → (side : Side) (e : Event) (s : State) → apply c (apply (raised side e) s) ≡ apply (raised side e) (apply c s)
+swap_raised all_fresh p side e s = elim p [ ]
+swap_raised (pushed i entry) p side e s = refl
+swap_raised (popped i) p side e s = refl
+swap_raised (flag_is at i b) p side e s = refl
+swap_raised (mail_is at n) p side e s = refl
+swap_raised (raised at f) p side e s = raise_raise at side f e s
+swap_raised (cleared at bits) p side e s = elim p [ ]
+swap_raised (enables_are at n) p side e s = elim p [ ]
+swap_raised (transfer_is t) p side e s = elim p [ ]
+swap_raised (dma_is d) p side e s = elim p [ ]
+
+swap_transfer : (c : Change) → Plain c → (t : Transfer) (s : State) → apply c (apply (transfer_is t) s) ≡ apply (transfer_is t) (apply c s)
+swap_transfer all_fresh p t s = elim p [ ]
+swap_transfer (pushed i entry) p t s = refl
+swap_transfer (popped i) p t s = refl
+swap_transfer (flag_is side i b) p t s = refl
+swap_transfer (mail_is side n) p t s = refl
+swap_transfer (raised side e) p t s = refl
+swap_transfer (cleared side bits) p t s = elim p [ ]
+swap_transfer (enables_are side n) p t s = elim p [ ]
+swap_transfer (transfer_is d) p t s = elim p [ ]
+swap_transfer (dma_is d) p t s = elim p [ ]
+
 swap_one : (c d : Change) → Plain c → Stepwise d → (s : State) → apply c (apply d s) ≡ apply d (apply c s)
-swap_one (pushed i entry) (raised side e) p r s = refl
-swap_one (pushed i entry) (transfer_is t) p r s = refl
-swap_one (popped i) (raised side e) p r s = refl
-swap_one (popped i) (transfer_is t) p r s = refl
-swap_one (flag_is side i b) (raised other e) p r s = refl
-swap_one (flag_is side i b) (transfer_is t) p r s = refl
-swap_one (mail_is side n) (raised other e) p r s = refl
-swap_one (mail_is side n) (transfer_is t) p r s = refl
-swap_one (raised side e) (raised other f) p r s = raise_raise side other e f s
-swap_one (raised side e) (transfer_is t) p r s = refl
+swap_one c all_fresh p r s = elim r [ ]
+swap_one c (pushed i entry) p r s = elim r [ ]
+swap_one c (popped i) p r s = elim r [ ]
+swap_one c (flag_is side i b) p r s = elim r [ ]
+swap_one c (mail_is side n) p r s = elim r [ ]
+swap_one c (raised side e) p r s = swap_raised c p side e s
+swap_one c (cleared side bits) p r s = elim r [ ]
+swap_one c (enables_are side n) p r s = elim r [ ]
+swap_one c (transfer_is t) p r s = swap_transfer c p t s
+swap_one c (dma_is t) p r s = elim r [ ]
 
 swap_into : (c : Change) → Plain c → (ds : List Change) → All Stepwise ds → (s : State) → apply c (apply_all ds s) ≡ apply_all ds (apply c s)
 swap_into c p [] r s = refl
@@ -68,11 +93,16 @@ swap_all (c ∷ cs) p ds r s = ap (apply_all cs) (swap_into c p.0 ds r s) ∙ sw
 
 -- a plain change leaves the transfer as it is
 keep_one : (c : Change) → Plain c → (s : State) → (apply c s).transfer ≡ s.transfer
+keep_one all_fresh k s = elim k [ ]
 keep_one (pushed i entry) k s = refl
 keep_one (popped i) k s = refl
 keep_one (flag_is side i b) k s = refl
 keep_one (mail_is side d) k s = refl
 keep_one (raised side e) k s = refl
+keep_one (cleared side bits) k s = elim k [ ]
+keep_one (enables_are side n) k s = elim k [ ]
+keep_one (transfer_is d) k s = elim k [ ]
+keep_one (dma_is d) k s = elim k [ ]
 
 pub keep_transfer : (cs : List Change) → All Plain cs → (s : State) → (apply_all cs s).transfer ≡ s.transfer
 keep_transfer [] k s = refl
@@ -86,8 +116,16 @@ pub record Like (s s' : State) : Type 0 where
   pub mailboxes : s'.mailboxes ≡ s.mailboxes
 
 like_one : (d : Change) → Stepwise d → (s : State) → Like s (apply d s)
+like_one all_fresh r s = elim r [ ]
+like_one (pushed i entry) r s = elim r [ ]
+like_one (popped i) r s = elim r [ ]
+like_one (flag_is side i b) r s = elim r [ ]
+like_one (mail_is side n) r s = elim r [ ]
 like_one (raised side e) r s = record { settings = refl; fifos = refl; arbitration = refl; mailboxes = refl }
+like_one (cleared side bits) r s = elim r [ ]
+like_one (enables_are side n) r s = elim r [ ]
 like_one (transfer_is t) r s = record { settings = refl; fifos = refl; arbitration = refl; mailboxes = refl }
+like_one (dma_is d) r s = elim r [ ]
 
 pub like : (ds : List Change) → All Stepwise ds → (s : State) → Like s (apply_all ds s)
 like [] r s = record { settings = refl; fifos = refl; arbitration = refl; mailboxes = refl }

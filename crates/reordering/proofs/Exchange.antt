@@ -14,7 +14,7 @@ use Rattle.model.specs.State.{World, NewCard, fresh_card, fresh_world}
 use Rattle.model.specs.Changes.{Effect, world_after}
 use Rattle.model.specs.Steps.{stepped}
 use Rattle.model.specs.Runs.{Outcome, Entry, run, entry_at}
-use Rattle.model.specs.Accesses.{Access, Answer, Kind, step, kind_of, row_of, fit, checks, settled, access, number_of}
+use Rattle.model.specs.Accesses.{Access, Answer, Kind, kind_of, row_of, fit, checks, settled, access, number_of}
 use Rattle.model.proofs.TestLaws.{no_both, and_left, and_right, or_left, every_append, every_map, if_case}
 use Rattle.model.specs.Choice.{All}
 use Rattle.model.proofs.CheckLaws.{Pass, pass_refusal}

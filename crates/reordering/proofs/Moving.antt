@@ -37,7 +37,7 @@ module _ {A : Type 0} where
 
   rising_left : {n lo : ℕ} (o p : List (ℕ × A)) → Rising n lo (o ++ p) → Rising n lo o
   rising_left [] p r = end (rising_le r)
-  rising_left (h ∷ o) p (more l r) = more l (rising_left o p r)
+  rising_left {n = n} {lo = lo} (h ∷ o) p (more l r) = more l (rising_left {n = n} {lo = suc h.0} o p r)
 
   rising_snoc : {n lo : ℕ} {o : List (ℕ × A)} (t : A) → Rising n lo o → Rising (suc n) lo (o ++ ((n, t) ∷ []))
   rising_snoc {n} t (end l) = more l (end {lo = suc n} (omega arith))
@@ -96,7 +96,7 @@ module _ {A E : Type 0} where
     -- a transfer that is not open and not new has no steps any more
     pub absent : {n lo : ℕ} {o : List (ℕ × A)} (k : ℕ) (es : List E) → k < lo → Rising n lo o → steps_of k (roles_from action_of n o es) ≡ []
     absent k [] d r = refl
-    absent {n} {lo} {o} k (e ∷ es) d r = go (action_of e) o r (absent k es d (rising_after (action_of e) r))
+    absent {n} {lo} {o} k (e ∷ es) d r = go (action_of e) o r (absent {n = count_after n (action_of e)} {lo = lo} {o = open_after (λ t. (n, t)) (action_of e) o} k es d (rising_after (action_of e) r))
       where
         go : (κ : TransferAction A) (o : List (ℕ × A)) → Rising n lo o → steps_of k (roles_from action_of (count_after n κ) (open_after (λ t. (n, t)) κ o) es) ≡ [] → steps_of k (role_of n o κ e ∷ roles_from action_of (count_after n κ) (open_after (λ t. (n, t)) κ o) es) ≡ []
         go resets o r i = i
@@ -264,13 +264,13 @@ module _ {World Access Answer A : Type 0} (machine : World → Access → Outcom
 
   module _ (exchange : Exchange machine action_of quiet opened) where
     -- a quiet entry goes behind the steps that come right after it
-    bubble : (w z : World) (e : Entry Access Answer) {q : List A} {s : List (Entry Access Answer)} (es : List (Entry Access Answer)) → ((c : Bool) → action_of e ≢ steps c) → Serves action_of quiet e q s → opened w ≡ q →
+    bubble : (e : Entry Access Answer) (w z : World) {q : List A} {s : List (Entry Access Answer)} (es : List (Entry Access Answer)) → ((c : Bool) → action_of e ≢ steps c) → Serves action_of quiet e q s → opened w ≡ q →
         (machine w e.access).answer ≡ e.answer → Runs (machine w e.access).world (s ++ es) z → Runs w (s ++ (e ∷ es)) z
-    bubble w z e es y ended u a h = (a, h)
-    bubble w z e es y (serve {t} {q} {e = d} b c k v) u a h =
+    bubble e w z es y ended u a h = (a, h)
+    bubble e w z es y (serve {t} {q} {e = d} b c k v) u a h =
         let x = exchange w e.access d.access t q b u (rw a y) (rw a k) (rw h.0 c) in (
           x.step ∙ h.0,
-          bubble (machine w d.access).world z e es y v (rw (x.step ∙ h.0, c, u) at (follows w d.access)) (x.other ∙ a) (rw x.world h.1),
+          bubble e (machine w d.access).world z es y v (rw (x.step ∙ h.0, c, u) at (follows w d.access)) (x.other ∙ a) (rw x.world h.1),
         )
 
     place : (κ : TransferAction A) (e : Entry Access Answer) → action_of e ≡ κ → (es : List (Entry Access Answer)) (w z : World) (n lo : ℕ) (o : List (ℕ × A)) → Rising n lo o → opened w ≡ map (λ h. h.1) o →
@@ -281,7 +281,7 @@ module _ {World Access Answer A : Type 0} (machine : World → Access → Outcom
     place (starts t) e y es w z n lo o r u c a h =
         let l = roles_from action_of (suc n) (o ++ ((n, t) ∷ [])) es in
         rw (ahead_start o n t e l)
-        (bubble w z e (steps_of n l ++ moved l) (rw y (λ b q. no_steps_start t b q)) (serves action_of quiet e es (suc n) lo o ((n, t) ∷ []) (rising_snoc t r) (calm_ready quiet action_of o (start_of n t e) l (start_no_step n t e) c)) u a
+        (bubble e w z (steps_of n l ++ moved l) (rw y (λ b q. no_steps_start t b q)) (serves action_of quiet e es (suc n) lo o ((n, t) ∷ []) (rising_snoc t r) (calm_ready quiet action_of o (start_of n t e) l (start_no_step n t e) c)) u a
         (rw (ahead_snoc o (n, t) l, append_assoc) at h))
     place (steps true) e y es w z n lo [] r u c a h = (a, h)
     place (steps false) e y es w z n lo [] r u c a h = (a, h)
@@ -293,7 +293,7 @@ module _ {World Access Answer A : Type 0} (machine : World → Access → Outcom
         let l = roles_from action_of n o es in
         let v : Serves action_of quiet e (map (λ g. g.1) o) (ahead o l) =
         rw append-nil at (serves action_of quiet e es n lo o [] (rw append-nil r) (rw append-nil (calm_ready quiet action_of o (neither e) l (other_no_step e) c))) in
-        rw (ahead_other o e l) (bubble w z e (moved l) (rw y (λ b q. no_steps_none b q)) v u a h)
+        rw (ahead_other o e l) (bubble e w z (moved l) (rw y (λ b q. no_steps_none b q)) v u a h)
 
     gathered : (es : List (Entry Access Answer)) (w z : World) (n lo : ℕ) (o : List (ℕ × A)) → Rising n lo o → opened w ≡ map (λ h. h.1) o →
         Calm quiet o (roles_from action_of n o es) → Undisturbed quiet (roles_from action_of n o es) → Runs w es z → Runs w (ahead o (roles_from action_of n o es) ++ moved (roles_from action_of n o es)) z

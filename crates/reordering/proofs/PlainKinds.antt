@@ -58,6 +58,7 @@ module _ (R : Store → Type 0) (none : R nothing) where
   pub plain_effect : (k : Kind) → PlainKind k → (w : World) (q : Access) →
       (k ≡ Kind.shared_write → R (to_shared q.a q.s q.b)) → (k ≡ Kind.window_write → R (to_window (q.a - w.card.settings.base) q.s q.b)) →
       Plainly (row_of k w q).effect
+  plain_effect Kind.reset p w q s t = elim p [ ]
   plain_effect Kind.shared_read p w q s t = (tt, none)
   plain_effect Kind.shared_write p w q s t = (tt, s refl)
   plain_effect Kind.window_read p w q s t = (tt, none)
@@ -68,7 +69,13 @@ module _ (R : Store → Type 0) (none : R nothing) where
   plain_effect Kind.release p w q s t = ((tt, tt), none)
   plain_effect Kind.mailbox_write p w q s t = ((tt, mail_plain (side_of q.side) (bit 24 q.b)), none)
   plain_effect Kind.mailbox_read p w q s t = (tt, none)
+  plain_effect Kind.interrupt_read p w q s t = elim p [ ]
+  plain_effect Kind.interrupt_write p w q s t = elim p [ ]
+  plain_effect Kind.line p w q s t = elim p [ ]
+  plain_effect Kind.start p w q s t = elim p [ ]
+  plain_effect Kind.step p w q s t = elim p [ ]
   plain_effect Kind.external_pin p w q s t = ((tt, tt), none)
+  plain_effect Kind.unknown p w q s t = elim p [ ]
 
 pub plain_changes : (k : Kind) → PlainKind k → (w : World) (q : Access) → All Plain (row_of k w q).effect.changes
 plain_changes k p w q = (plain_effect (λ _. Unit {0}) tt k p w q (λ _. tt) (λ _. tt)).0
@@ -106,6 +113,7 @@ pub same_effect : (k : Kind) → PlainKind k → (w w' : World) (q : Access) →
     (k ≡ Kind.shared_read → read_dword w'.shared q.a q.s ≡ read_dword w.shared q.a q.s) →
     (k ≡ Kind.window_read → read_dword w'.window (q.a - w.card.settings.base) q.s ≡ read_dword w.window (q.a - w.card.settings.base) q.s) →
     (row_of k w' q).effect ≡ (row_of k w q).effect
+same_effect Kind.reset p w w' q l s t = elim p [ ]
 same_effect Kind.shared_read p w w' q l s t = rw (s refl)
 same_effect Kind.shared_write p w w' q l s t = refl
 same_effect Kind.window_read p w w' q l s t = rw (l.settings, t refl)
@@ -116,7 +124,13 @@ same_effect Kind.claim p w w' q l s t = rw l.arbitration
 same_effect Kind.release p w w' q l s t = refl
 same_effect Kind.mailbox_write p w w' q l s t = refl
 same_effect Kind.mailbox_read p w w' q l s t = rw l.mailboxes
+same_effect Kind.interrupt_read p w w' q l s t = elim p [ ]
+same_effect Kind.interrupt_write p w w' q l s t = elim p [ ]
+same_effect Kind.line p w w' q l s t = elim p [ ]
+same_effect Kind.start p w w' q l s t = elim p [ ]
+same_effect Kind.step p w w' q l s t = elim p [ ]
 same_effect Kind.external_pin p w w' q l s t = refl
+same_effect Kind.unknown p w w' q l s t = elim p [ ]
 
 -- a kind that is plain is none of the two whose checks look at the transfer
 pub plain_fixed : (k : Kind) → PlainKind k → Fixed k
