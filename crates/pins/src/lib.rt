@@ -1,5 +1,6 @@
 // Local pins to lanes: width mode, pins BE[3:0] and data give the lanes and the dword.
 #![tactic(auto)]
+
 ghost use Rattle.std.specs.Prelude.{◌≡◌, ◌≤◌, get_or};
 ghost use Rattle.model.specs.Pins.{lanes16, motorola_rows, lanes_of, decode};
 ghost use Rattle.pins.specs.Bridge.{decoded_as, one_lane, carried_in};
