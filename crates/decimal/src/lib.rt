@@ -1,6 +1,7 @@
 // Numbers in decimal, in lent bytes: a number is written with the byte after it, and read so. What is written is stored from a place on, and the place
 // after it given.
 #![tactic(auto)]
+
 ghost use Rattle.std.specs.Prelude.{◌≡◌, false, [], ◌∷◌, ◌+◌, ◌<◌, ◌≤◌, length, drop};
 ghost use Rattle.model.specs.Text.{decimal_text, field_text, is_digit};
 ghost use Rattle.model.specs.Text.{two_digits};

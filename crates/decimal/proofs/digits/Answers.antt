@@ -1,0 +1,22 @@
+-- The count is right: what is counted and the digits of what is left make the digits of the number, and a turn moves two of them.
+use Rattle.std.proofs.Common.{length, ap, arith}
+use Rattle.model.proofs.TextLaws.{one_digit, two_digits_lem, two_digits_longer, digits_64}
+use Rattle.decimal.proofs.digits.Goals as goal
+
+pub overflow_add-count : goal.overflow_add-count
+overflow_add-count c = omega (arith, digits_64 c.args.n (omega arith))
+
+pub loop-left-preserved : goal.loop-left-preserved
+loop-left-preserved c = omega (arith, two_digits_longer c.loop-left.left (omega arith))
+
+pub overflow_add-result : goal.overflow_add-result
+overflow_add-result c = omega (arith, digits_64 c.args.n (omega arith))
+
+pub overflow_add-result-else-left-ge10 : goal.overflow_add-result-else-left-ge10
+overflow_add-result-else-left-ge10 c = omega (arith, digits_64 c.args.n (omega arith))
+
+pub returns-then-left-ge10 : goal.returns-then-left-ge10
+returns-then-left-ge10 c = omega (arith, ap length (two_digits_lem c.loop-left.left (omega arith) (omega arith)))
+
+pub returns-else-left-ge10 : goal.returns-else-left-ge10
+returns-else-left-ge10 c = omega (arith, ap length (one_digit c.loop-left.left (omega arith)))
