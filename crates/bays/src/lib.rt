@@ -1,5 +1,6 @@
 // Document 02, L5: the bays of the backplane, by their index and by the label on them.
 #![tactic(auto)]
+
 ghost use Rattle.std.specs.Prelude.{◌≡◌};
 ghost use Rattle.model.specs.Bays.{bay_index};
 ghost use Rattle.bays.specs.Bridge.{label_at, found_as};
