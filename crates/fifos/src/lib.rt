@@ -1,5 +1,6 @@
 // Document 01, "FIFOs and flags": the four FIFOs by value.
 #![tactic(auto)]
+
 ghost use Rattle.std.specs.Prelude.{◌≡◌, [], ◌∷◌, ◌++◌, map, ◌<◌, ◌≤◌, length, take, drop, eqb};
 ghost use Rattle.model.specs.Fifos.{fresh_fifos, fifos_sound, entries_of};
 ghost use Rattle.model.specs.Why.{places};
