@@ -1,12 +1,14 @@
 // The two programs of document 02, L1, by the form that is read: chunk after chunk of standard input turned into the other form and written to
 // standard output. Standard error gets a line where a read or a write failed, and where a text was refused.
 #![tactic(auto)]
+
 ghost use Rattle.std.specs.Prelude.{◌≡◌, true, ◌+◌, ◌<◌, ◌≤◌, ◌^◌, length};
 ghost use Rattle.std.proofs.lemmas.List.Edits.{sets};
 ghost use Rattle.decimal.specs.Bridge.{Written};
 ghost use Rattle.converter.specs.Bridge.{first_turn, place_at, Going, Turned, Ended, error_text};
 
 use convert::{Converted, Form};
+use std::io::Stdin;
 use stream::Chunk;
 
 // Every loop must have an end: 3 times 2 to the 50 chunks, whose accesses a u64 still counts. At 10 GB a second they last 700 years.
@@ -56,7 +58,7 @@ impl Turn {
 }
 
 // Keeps what the last chunk cut off, reads a chunk behind it, turns its accesses and writes them.
-fn convert_next(from: Form, last: Turn, input: &mut [u8], out: &mut [u8]) -> Turn
+fn convert_next(stdin: Stdin, from: Form, last: Turn, input: &mut [u8], out: &mut [u8]) -> Turn
     requires going { Going last }
     requires input_len { (length input.old ≡ 65520) × (length out.old ≡ 196605) }
     requires count_bound { last.converted.count + 65520 < 2 ^ 64 }
@@ -66,7 +68,7 @@ fn convert_next(from: Form, last: Turn, input: &mut [u8], out: &mut [u8]) -> Tur
     let before = last.converted;
     let full = last.chunk;
     let kept = stream::keep(input, before.at, full.size);
-    let chunk = stream::read_chunk(input, kept);
+    let chunk = stream::read_chunk(stdin, input, kept);
     let size = chunk.size;
     let least = chunk.least(from.longest());
     let converted = convert::convert_chunk(from, least, before.count, &input[0..size], out);
@@ -83,7 +85,7 @@ fn convert_next(from: Form, last: Turn, input: &mut [u8], out: &mut [u8]) -> Tur
 }
 
 // Chunk after chunk, from the beginning.
-fn convert_input(from: Form, input: &mut [u8], out: &mut [u8]) -> Turn
+fn convert_input(stdin: Stdin, from: Form, input: &mut [u8], out: &mut [u8]) -> Turn
     requires { (length input.old ≡ 65520) × (length out.old ≡ 196605) }
     ensures ended { Ended from result input.new out.new }
     ensures count_bound { result.converted.count + 1 < 2 ^ 64 }
@@ -91,7 +93,7 @@ fn convert_input(from: Form, input: &mut [u8], out: &mut [u8]) -> Turn
     let mut last = Turn::first();
     let mut chunks: u64 = 0;
     loop {
-        let turn = convert_next(from, last, input, out);
+        let turn = convert_next(stdin, from, last, input, out);
         chunks += 1;
         if !turn.more | (chunks == CHUNKS) {
             return turn;
@@ -130,9 +132,9 @@ fn finish(from: Form, turn: Turn, out: &mut [u8])
     io::write_all(2, stream::text(&out[0..], end));
 }
 
-pub fn run(from: Form) {
+pub fn run(stdin: Stdin, from: Form) {
     let mut input = stream::input_buffer();
     let mut out = output_buffer();
-    let turn = convert_input(from, &mut input, &mut out);
+    let turn = convert_input(stdin, from, &mut input, &mut out);
     finish(from, turn, &mut out);
 }

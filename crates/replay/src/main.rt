@@ -1,12 +1,14 @@
 // Document 01, "Trace and replay": replays the trace of standard input, and writes the answers to standard output. Where a read or a write
 // fails there is no last line, and standard error says which of the two it was, and after how many records.
 #![tactic(auto)]
+
 ghost use Rattle.std.specs.Prelude.{◌≡◌, length};
 ghost use Rattle.model.specs.Replay.{replay_start};
 ghost use Rattle.standing.specs.Bridge.{standing_as};
 ghost use Rattle.replay.specs.Bridge.{Ended, Closed};
 
 use standing::Standing;
+use std::io::Stdin;
 use turn::Turn;
 
 // Every loop must have an end: 5 times 2 to the 50 chunks, whose records a u64 still counts. At 10 GB a second they last a thousand years.
@@ -21,6 +23,7 @@ fn output_buffer() -> [u8; 104832]
 
 // Chunk after chunk, from the fresh card and zeroed memories.
 fn replay_input(
+    stdin: Stdin,
     start: Standing,
     shared: &mut [u8],
     window: &mut [u8],
@@ -34,7 +37,7 @@ fn replay_input(
     let mut last = Turn::first(start);
     let mut chunks: u64 = 0;
     loop {
-        let turn = turn::replay_chunk(last, shared, window, input, out);
+        let turn = turn::replay_chunk(stdin, last, shared, window, input, out);
         chunks += 1;
         if !turn.goes_on() | (chunks == CHUNKS) {
             return turn;
@@ -54,12 +57,13 @@ fn finish(turn: Turn, out: &mut [u8])
     io::write_all(2, stream::text(&out[0..], fault));
 }
 
-fn main() {
+fn main(rt: HostRuntime) {
     let mut shared = standing::shared_memory();
     let mut window = standing::window_memory();
     let mut input = stream::input_buffer();
     let mut out = output_buffer();
     let turn = replay_input(
+        rt.stdin(),
         standing::start(),
         &mut shared,
         &mut window,

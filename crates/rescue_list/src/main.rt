@@ -1,7 +1,8 @@
 // Document 02, L14: rescues the damaged trace of standard input, and writes a line an entry.
 #![tactic(auto)]
+
 use rescue_chunk::Output;
 
-fn main() {
-    rescuer::run(Output::Entries);
+fn main(rt: HostRuntime) {
+    rescuer::run(rt.stdin(), Output::Entries);
 }

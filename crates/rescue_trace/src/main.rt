@@ -1,7 +1,8 @@
 // Document 02, L14: rescues the damaged trace of standard input, and writes the kept records anew as a trace.
 #![tactic(auto)]
+
 use rescue_chunk::Output;
 
-fn main() {
-    rescuer::run(Output::Records);
+fn main(rt: HostRuntime) {
+    rescuer::run(rt.stdin(), Output::Records);
 }

@@ -1,6 +1,7 @@
 // The two programs of document 02, L14, by what is written: chunk after chunk of standard input scanned, and the entries, or the kept records anew,
 // written to standard output. Standard error gets a line where a read or a write failed.
 #![tactic(auto)]
+
 ghost use Rattle.std.specs.Prelude.{◌≡◌, ◌+◌, ◌<◌, ◌≤◌, ◌^◌, length};
 ghost use Rattle.decimal.specs.Bridge.{Written};
 ghost use Rattle.rescue_chunk.specs.Bridge.{Small};
@@ -9,6 +10,7 @@ ghost use Rattle.rescuer.specs.Bridge.{first_turn, stood_at, Going, Turned, Ende
 use entry_text::Tally;
 use rescue_chunk::{Output, Rescued};
 use scan::Place;
+use std::io::Stdin;
 use stream::Chunk;
 
 // Every loop must have an end: 2 to the 48 chunks, whose bytes a u64 still counts. At 10 GB a second they last 50 years.
@@ -54,7 +56,7 @@ impl Turn {
 }
 
 // Keeps what the last chunk left, reads a chunk behind it, scans it and writes what it gives.
-fn rescue_next(output: Output, last: Turn, input: &mut [u8], out: &mut [u8]) -> Turn
+fn rescue_next(stdin: Stdin, output: Output, last: Turn, input: &mut [u8], out: &mut [u8]) -> Turn
     requires going { Going last }
     requires input_len { (length input.old ≡ 65520) × (length out.old ≡ 393222) }
     requires run_bound { last.rescued.place.from + last.rescued.place.run + 65520 < 2 ^ 64 }
@@ -64,7 +66,7 @@ fn rescue_next(output: Output, last: Turn, input: &mut [u8], out: &mut [u8]) -> 
     let before = last.rescued;
     let full = last.chunk;
     let kept = stream::keep(input, before.at, full.size);
-    let chunk = stream::read_chunk(input, kept);
+    let chunk = stream::read_chunk(stdin, input, kept);
     let size = chunk.size;
     let least = chunk.least(LONGEST);
     let place = before.place;
@@ -83,7 +85,7 @@ fn rescue_next(output: Output, last: Turn, input: &mut [u8], out: &mut [u8]) -> 
 }
 
 // Chunk after chunk, from the beginning.
-fn rescue_input(output: Output, input: &mut [u8], out: &mut [u8]) -> Turn
+fn rescue_input(stdin: Stdin, output: Output, input: &mut [u8], out: &mut [u8]) -> Turn
     requires { (length input.old ≡ 65520) × (length out.old ≡ 393222) }
     ensures ended { Ended output result input.new out.new }
     ensures run_bound { result.rescued.place.from + result.rescued.place.run + 20 < 2 ^ 64 }
@@ -91,7 +93,7 @@ fn rescue_input(output: Output, input: &mut [u8], out: &mut [u8]) -> Turn
     let mut last = Turn::first();
     let mut chunks: u64 = 0;
     loop {
-        let turn = rescue_next(output, last, input, out);
+        let turn = rescue_next(stdin, output, last, input, out);
         chunks += 1;
         if !turn.more | (chunks == CHUNKS) {
             return turn;
@@ -141,9 +143,9 @@ fn finish(output: Output, turn: Turn, out: &mut [u8])
     io::write_all(2, stream::text(&out[0..], fault));
 }
 
-pub fn run(output: Output) {
+pub fn run(stdin: Stdin, output: Output) {
     let mut input = stream::input_buffer();
     let mut out = rescue_buffer::output_buffer();
-    let turn = rescue_input(output, &mut input, &mut out);
+    let turn = rescue_input(stdin, output, &mut input, &mut out);
     finish(output, turn, &mut out);
 }

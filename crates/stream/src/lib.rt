@@ -1,8 +1,11 @@
 // Standard input and output, a chunk at a time. No contract can say what is read or written; a call that fails is told from the end of the input.
 #![tactic(auto)]
+
 ghost use Rattle.std.specs.Prelude.{◌≡◌, ◌≤◌, length, take};
 ghost use Rattle.model.specs.Choice.{if◌then◌else◌};
 ghost use Rattle.stream.specs.Bridge.{negative, Keeps, Reads, at_hand, least_of, goes_on, broke_off};
+
+use std::io::{Read, Stdin};
 
 // A full chunk: 3,276 records of 20 bytes.
 const CHUNK: usize = 65520;
@@ -67,6 +70,17 @@ pub fn records_told(lost: bool, before: u64, after: u64) -> u64
     if lost { before } else { after }
 }
 
+// A read, answered as POSIX has it: how many bytes, or a negative number where it failed.
+fn read(stdin: Stdin, buffer: &mut [u8]) -> isize
+    ensures { length buffer.new ≡ length buffer.old }
+{
+    let mut from = stdin;
+    match from.read(buffer) {
+        Ok(count) => count as isize,
+        Err(_) => -1,
+    }
+}
+
 // POSIX: a call that fails answers a negative number.
 fn failed(got: isize) -> bool
     ensures { result ≡ negative got }
@@ -90,13 +104,13 @@ pub fn keep(buffer: &mut [u8], at: usize, size: usize) -> usize
 }
 
 // Reads behind the bytes that are kept until the buffer is full, the input ends or a read fails. A read that a signal interrupts has failed.
-pub fn read_chunk(buffer: &mut [u8], kept: usize) -> Chunk
+pub fn read_chunk(stdin: Stdin, buffer: &mut [u8], kept: usize) -> Chunk
     requires { kept ≤ length buffer.old }
     ensures { Reads buffer.old kept result buffer.new }
 {
     let mut size = kept;
     while size < buffer.len() {
-        let got = libc::read(libc::STDIN_FILENO, &mut buffer[size..]);
+        let got = read(stdin, &mut buffer[size..]);
         if failed(got) {
             return Chunk {
                 size: size,

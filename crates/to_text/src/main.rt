@@ -1,7 +1,8 @@
 // Document 02, L1: turns the trace of standard input into a text list of accesses.
 #![tactic(auto)]
+
 use convert::Form;
 
-fn main() {
-    converter::run(Form::Trace);
+fn main(rt: HostRuntime) {
+    converter::run(rt.stdin(), Form::Trace);
 }

@@ -1,11 +1,13 @@
 // One chunk of the replay: read from standard input, answered, and its text written to standard output; and the last lines, by how it went.
 #![tactic(auto)]
+
 ghost use Rattle.std.specs.Prelude.{◌≡◌, true, ◌+◌, ◌<◌, ◌≤◌, ◌^◌, length};
 ghost use Rattle.decimal.specs.Bridge.{Written};
 ghost use Rattle.standing.specs.Bridge.{standing_as};
 ghost use Rattle.turn.specs.Bridge.{first_turn, Turned, closing_text, fault_text};
 
 use standing::Standing;
+use std::io::Stdin;
 use stream::Chunk;
 
 // How a chunk went: what was read of it, where its text ends in the output buffer, where the replay stands then, whether the text was lost in a
@@ -49,6 +51,7 @@ impl Turn {
 
 // Reads a chunk, answers its records and writes their text. None is read behind a turn that does not go on.
 pub fn replay_chunk(
+    stdin: Stdin,
     last: Turn,
     shared: &mut [u8],
     window: &mut [u8],
@@ -62,7 +65,7 @@ pub fn replay_chunk(
     ensures count_bound_2 { result.standing.count ≤ last.standing.count + 3276 }
 {
     let start = last.standing;
-    let chunk = stream::read_chunk(input, 0);
+    let chunk = stream::read_chunk(stdin, input, 0);
     let size = chunk.at_hand();
     let replayed = player::answer_chunk(start, shared, window, &input[0..size], out);
     let end = replayed.end;

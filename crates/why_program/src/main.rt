@@ -1,11 +1,14 @@
 // Document 02, L7: says why an event bit reads as it does at the end of the trace of standard input. The side is the first argument, the position the
 // second. Where a read or a write fails, standard error says which of the two it was, and after how many records.
 #![tactic(auto)]
+
 ghost use Rattle.std.specs.Prelude.{◌≡◌, ◌+◌, ◌≤◌, length};
 ghost use Rattle.decimal.specs.Bridge.{Written};
 ghost use Rattle.why_program.specs.Bridge.{Argument, Responded, answer_end, usage_end, fault_text, Closed};
 
 use decimal::Whole;
+use std::env::Env;
+use std::io::Stdin;
 use stream::Chunk;
 use why_text::Reply;
 
@@ -23,19 +26,22 @@ fn output_buffer() -> [u8; 1365]
 }
 
 // An argument, read as a number. One that is missing is empty, and no number.
-fn argument(i: usize, buffer: &mut [u8]) -> Whole
+fn argument(rt: &HostRuntime, i: usize, buffer: &mut [u8]) -> Whole
     ensures { Argument buffer.new result }
 {
-    let size = os::arg(i, buffer);
+    let size = match rt.arg(i, buffer) {
+        Ok(size) => size,
+        Err(_) => 0,
+    };
     decimal::read_whole(&buffer[0..size])
 }
 
 // The trace, as far as the buffer holds it; nothing is read for a question that is not asked.
-fn read_trace(asked: bool, input: &mut [u8]) -> Chunk
+fn read_trace(stdin: Stdin, asked: bool, input: &mut [u8]) -> Chunk
     ensures { result.size ≤ length input.new }
 {
     if asked {
-        return stream::read_chunk(input, 0);
+        return stream::read_chunk(stdin, input, 0);
     }
     Chunk {
         size: 0,
@@ -50,12 +56,12 @@ struct Turn {
     reply: Reply,
 }
 
-fn respond(side: Whole, position: Whole, input: &mut [u8], out: &mut [u8]) -> Turn
+fn respond(stdin: Stdin, side: Whole, position: Whole, input: &mut [u8], out: &mut [u8]) -> Turn
     requires { length out.old ≡ 1365 }
     ensures responded { Responded side position result input.new out.old out.new }
     ensures end_bound { result.reply.end ≤ 1365 }
 {
-    let chunk = read_trace(side.stands & position.stands, input);
+    let chunk = read_trace(stdin, side.stands & position.stands, input);
     let size = chunk.size;
     let reply = why_text::ask(side, position, &input[0..size], out);
     Turn {
@@ -116,11 +122,11 @@ fn finish(turn: Turn, out: &mut [u8])
     io::write_all(2, stream::text(&out[0..], fault));
 }
 
-fn main() {
+fn main(rt: HostRuntime) {
     let mut input = input_buffer();
     let mut out = output_buffer();
-    let side = argument(1, &mut input);
-    let position = argument(2, &mut input);
-    let turn = respond(side, position, &mut input, &mut out);
+    let side = argument(&rt, 1, &mut input);
+    let position = argument(&rt, 2, &mut input);
+    let turn = respond(rt.stdin(), side, position, &mut input, &mut out);
     finish(turn, &mut out);
 }
