@@ -1,5 +1,6 @@
 // Document 01, "The part we model": the settings, and what they say of PCI addresses and of the memories lent.
 #![tactic(auto)]
+
 ghost use Rattle.std.specs.Prelude.{◌≡◌, List, ℕ, ◌-◌, ◌≤◌, length};
 ghost use Rattle.model.specs.Settings.{zero_settings, settings_pass, lengths_fit, in_abort_range, outside_window};
 ghost use Rattle.settings.specs.Bridge.{settings_as};
