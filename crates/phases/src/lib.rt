@@ -1,5 +1,6 @@
 // Document 02, L10: the phases of a burst: what one is, where the dword address goes, the checks, and their single accesses done in place.
 #![tactic(auto)]
+
 ghost use Rattle.std.specs.Prelude.{◌≡◌, true, ◌&&◌, ◌||◌, [], ◌≤◌, eqb, ltb, length};
 ghost use Rattle.model.specs.Choice.{if◌then◌else◌};
 ghost use Rattle.model.specs.Checks.{refusal, above, shared_length};

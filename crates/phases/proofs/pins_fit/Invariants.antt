@@ -1,0 +1,12 @@
+use Rattle.std.proofs.Common.{length, ◌-◌, ◌≡◌, ◌&&◌, ◌≤◌, drop}
+use Rattle.phases.specs.Bridge.{phases_as, pins_fit}
+use Rattle.phases.proofs.pins_fit.Given as goal
+
+abbrev pub invariant-loop-i : goal.invariant-loop-i
+invariant-loop-i l = record {
+  within : l.i ≤ length l.phases;
+  looked_at : (l.fit && pins_fit (phases_as (drop l.i l.phases))) ≡ pins_fit (phases_as l.phases);
+}
+
+abbrev pub decreases-loop-i : goal.decreases-loop-i
+decreases-loop-i l = length l.phases - l.i
