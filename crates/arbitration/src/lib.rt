@@ -1,5 +1,6 @@
 // Document 01, "FIFOs and flags": the four pairs of arbitration flags by value.
 #![tactic(auto)]
+
 ghost use Rattle.std.specs.Prelude.{◌≡◌, map, ◌≤◌, ◌<◌};
 ghost use Rattle.model.specs.Choice.{if◌then◌else◌};
 ghost use Rattle.model.specs.Sides.{side_of, other};
