@@ -1,6 +1,7 @@
 // The text of the replay and of the refusals, and the line for standard error: each function stores its text in a lent buffer from a place on, and
 // gives the place after it.
 #![tactic(auto)]
+
 ghost use Rattle.std.specs.Prelude.{◌≡◌, ◌+◌, ◌≤◌, length};
 ghost use Rattle.model.specs.Text.{line_text, end_text, refusal_text, log_text, refused_line_text};
 ghost use Rattle.decimal.specs.Bridge.{Written};
