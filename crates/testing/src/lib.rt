@@ -1,6 +1,7 @@
 // What the test programs share: bytes of a case read from standard input, numbers of a case, digests, numbers written to standard output.
 // No contract can say what is read or written.
 #![tactic(auto)]
+
 ghost use Rattle.std.specs.Prelude.{◌≡◌, ◌+◌, ◌*◌, ltb, length};
 ghost use Rattle.model.specs.Choice.{if◌then◌else◌};
 ghost use Rattle.model.specs.Lanes.{read_dword};
