@@ -1,5 +1,6 @@
 // Document 01, "Transfer": the one DMA transfer of a card, as its record keeps it.
 #![tactic(auto)]
+
 ghost use Rattle.std.specs.Prelude.{◌≡◌};
 ghost use Rattle.model.specs.Checks.{refusal};
 ghost use Rattle.model.specs.Transfer.{idle, request_checks, is_idle, transfer_sound};
