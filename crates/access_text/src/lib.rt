@@ -1,5 +1,6 @@
 // Document 02, L1: the text of an access, a line of a text list; its writer and its reader.
 #![tactic(auto)]
+
 ghost use Rattle.std.specs.Prelude.{◌≡◌, false, ◌+◌, ◌≤◌, length};
 ghost use Rattle.model.specs.Text.{is_digit};
 ghost use Rattle.model.specs.AccessText.{access_line, read_line};
