@@ -1,5 +1,6 @@
 // Document 01, "Interrupt registers": sets of events, and a register by value.
 #![tactic(auto)]
+
 ghost use Rattle.std.specs.Prelude.{◌≡◌, not, ◌/◌, ◌<◌, eqb};
 ghost use Rattle.std.specs.Int.Bits.{bit_or};
 ghost use Rattle.model.specs.Choice.{if◌then◌else◌};
