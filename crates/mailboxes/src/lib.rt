@@ -1,5 +1,6 @@
 // Document 01, "Mailboxes": both mailboxes by value.
 #![tactic(auto)]
+
 ghost use Rattle.std.specs.Prelude.{◌≡◌};
 ghost use Rattle.model.specs.Sides.{side_of};
 ghost use Rattle.model.specs.Mailboxes.{fresh_mailboxes, mailboxes_sound, with_mail, mail_for, label_for};
