@@ -1,3 +1,4 @@
+-- `phases::pins_fit` meets its contract: what the loop found so far, and what is still to be looked at, are the test of all phases.
 use Rattle.std.proofs.Common.{length, ◌-◌, ◌≡◌, ◌&&◌, ◌≤◌, drop}
 use Rattle.phases.specs.Bridge.{phases_as, pins_fit}
 use Rattle.phases.proofs.pins_fit.Given as goal
