@@ -1,5 +1,6 @@
 // Document 02, L4: the DMA registers by value, which a transfer is programmed in. Pages are those of document 000, the data sheet.
 #![tactic(auto)]
+
 ghost use Rattle.std.specs.Prelude.{◌≡◌};
 ghost use Rattle.model.specs.Sides.{side_of};
 ghost use Rattle.model.specs.Events.{bit};
