@@ -1,5 +1,6 @@
 // Document 02, L14: the scan of a damaged trace: where the next record stands, where the scan stands, and the entries that it lists.
 #![tactic(auto)]
+
 ghost use Rattle.std.specs.Prelude.{◌≡◌, ℕ, ◌+◌, ◌<◌, ◌≤◌, ◌^◌, length};
 ghost use Rattle.model.specs.Trace.{next_number};
 ghost use Rattle.model.specs.Rescue.{kept_at, skipped};
