@@ -1,6 +1,6 @@
 -- A side's register read, changed and written back is that register changed; and changed at once, or one change after the other.
 use Rattle.std.specs.Prelude.{◌≡◌, refl}
-use Rattle.std.proofs.Common.{ap, ◌∙◌}
+use Rattle.std.proofs.Common.{◌∙◌}
 use Rattle.model.specs.Sides.{Side, host, local}
 use Rattle.model.specs.Interrupts.{Register, Interrupts, register, on_register}
 

@@ -1,5 +1,6 @@
 // Document 01, "Interrupt registers": HINT and LINT by value.
 #![tactic(auto)]
+
 ghost use Rattle.std.specs.Prelude.{◌≡◌, ◌/◌};
 ghost use Rattle.model.specs.Sides.{side_of};
 ghost use Rattle.model.specs.Events.{common, enable_mask};
