@@ -1,5 +1,6 @@
 // Document 02, L4: what an offset in the 32 KB map names.
 #![tactic(auto)]
+
 ghost use Rattle.std.specs.Prelude.{◌≡◌};
 ghost use Rattle.model.specs.RegisterMap.{registers, found_in, resource_at, is_modelled};
 ghost use Rattle.register_map.specs.Bridge.{resource_as};
