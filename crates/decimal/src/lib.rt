@@ -176,8 +176,8 @@ fn capped(n: u64) -> u64
 pub fn read_whole(text: &[u8]) -> Whole
     ensures { ReadWhole text.now result }
 {
-    let first = digit_at(text, 0);
-    if first == 0 {
+    let leading = digit_at(text, 0);
+    if leading == 0 {
         return Whole {
             stands: text.len() == 1,
             number: 0,
@@ -185,7 +185,7 @@ pub fn read_whole(text: &[u8]) -> Whole
     }
     let mut n = 0;
     let mut p = 0;
-    let mut digit = first;
+    let mut digit = leading;
     while digit < NO_DIGIT {
         n = capped(10 * n + digit);
         p += 1;

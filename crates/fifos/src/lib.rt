@@ -132,10 +132,7 @@ impl Fifos {
     pub fn fresh() -> Fifos
         ensures { fifos_as result ≡ fresh_fifos }
     {
-        let empty = Fifo {
-            entries: [0; 32],
-            count: 0,
-        };
+        let empty = Fifo::empty();
         Fifos { each: [empty; 4] }
     }
 

@@ -3,8 +3,8 @@ use Rattle.std.proofs.Common.{sym, ◌∙◌, arith}
 use Rattle.decimal.specs.ReadLaws.{digits_on, within, whole_zero, whole_ended}
 use Rattle.decimal.proofs.read_whole.Goals as goal
 
-pub returns-then-first-eq0 : goal.returns-then-first-eq0
-returns-then-first-eq0 c = whole_zero _ (sym c.if-first-eq0.true ∙ c.digit_at-first.ensures)
+pub returns-then-leading-eq0 : goal.returns-then-leading-eq0
+returns-then-leading-eq0 c = whole_zero _ (sym c.if-leading-eq0.true ∙ c.digit_at-leading.ensures)
 
 pub loop-digit-preserved : goal.loop-digit-preserved
 loop-digit-preserved c =
