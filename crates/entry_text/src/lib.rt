@@ -1,5 +1,6 @@
 // Document 02, L14: the line of an entry and the last line of a rescue, each stored in a lent buffer from a place on; the place after it is given.
 #![tactic(auto)]
+
 ghost use Rattle.std.specs.Prelude.{◌≡◌, ◌++◌, ◌+◌, ◌≤◌, length};
 ghost use Rattle.model.specs.Text.{field_text};
 ghost use Rattle.model.specs.RescueText.{entry_text, tallied, total_text};
