@@ -1,5 +1,6 @@
 // The card's record by value: when it is sound, the fresh one, one part of it replaced, its reset, and what an access gives.
 #![tactic(auto)]
+
 ghost use Rattle.std.specs.Prelude.{◌≡◌, List, ℕ};
 ghost use Rattle.model.specs.State.{sound, with_fifos, with_arbitration, with_mailboxes, with_interrupts, with_transfer, with_dma, fresh, fresh_card};
 ghost use Rattle.model.specs.Accesses as model;
@@ -68,6 +69,7 @@ pub fn sound(card: Card) -> bool
 
 impl Card {
     // The record alone: "A fresh card has empty FIFOs and all else 0, clear or idle."
+    #[tactic(auto, unfolding(crate::specs::Bridge::state_as))]
     fn fresh(settings: Settings) -> Card
         ensures { state_as result ≡ fresh (settings_as settings) }
     {
@@ -102,6 +104,7 @@ pub fn fresh(settings: Settings) -> NewCard
 // ONE PART REPLACED
 
 impl Card {
+    #[tactic(auto, unfolding(crate::specs::Bridge::state_as))]
     pub fn with_fifos(self, fifos: Fifos) -> Card
         ensures { state_as result ≡ with_fifos (fifos_as fifos) (state_as self) }
     {
@@ -110,6 +113,7 @@ impl Card {
         card
     }
 
+    #[tactic(auto, unfolding(crate::specs::Bridge::state_as))]
     pub fn with_arbitration(self, arbitration: Arbitration) -> Card
         ensures { state_as result ≡ with_arbitration (arbitration_as arbitration) (state_as self) }
     {
@@ -118,6 +122,7 @@ impl Card {
         card
     }
 
+    #[tactic(auto, unfolding(crate::specs::Bridge::state_as))]
     pub fn with_mailboxes(self, mailboxes: Mailboxes) -> Card
         ensures { state_as result ≡ with_mailboxes (mailboxes_as mailboxes) (state_as self) }
     {
@@ -126,6 +131,7 @@ impl Card {
         card
     }
 
+    #[tactic(auto, unfolding(crate::specs::Bridge::state_as))]
     pub fn with_interrupts(self, interrupts: Interrupts) -> Card
         ensures { state_as result ≡ with_interrupts (interrupts_as interrupts) (state_as self) }
     {
@@ -135,6 +141,7 @@ impl Card {
     }
 
     // An enum is not stored to a field: the record is written anew.
+    #[tactic(auto, unfolding(crate::specs::Bridge::state_as))]
     pub fn with_transfer(self, transfer: Transfer) -> Card
         ensures { state_as result ≡ with_transfer (transfer_as transfer) (state_as self) }
     {
@@ -155,6 +162,7 @@ impl Card {
         }
     }
 
+    #[tactic(auto, unfolding(crate::specs::Bridge::state_as))]
     pub fn with_dma(self, dma: Dma) -> Card
         ensures { state_as result ≡ with_dma (dma_as dma) (state_as self) }
     {
