@@ -1,5 +1,6 @@
 // "A transfer's source bytes as a part of whichever memory holds them, not a copy."
 #![tactic(auto)]
+
 ghost use Rattle.std.specs.Prelude.{◌≡◌, List, ℕ, length};
 ghost use Rattle.model.specs.Checks.{refusal};
 ghost use Rattle.model.specs.Transfer.{request_of};
