@@ -1,5 +1,6 @@
 // Runs `pins::decode` on the cases of standard input: 6 bytes each, mode, pins and data, as the independent program wrote them.
 #![tactic(auto)]
+
 use testing::show;
 
 // Reads a case and writes its number, lanes and dword; false where the input ends.
