@@ -1,5 +1,6 @@
 // Document 02, L4: "A read there that is no such access answers as the sheet says, changing nothing."
 #![tactic(auto)]
+
 ghost use Rattle.std.specs.Prelude.{List, ℕ};
 ghost use Rattle.model.specs.Registers.{plainly};
 ghost use Rattle.card.specs.Bridge.{Settles};
