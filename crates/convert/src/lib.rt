@@ -1,5 +1,6 @@
 // Document 02, L1: a list of accesses turned from one form into the other: "a text list of accesses into a trace", and "back".
 #![tactic(auto)]
+
 ghost use Rattle.std.specs.Prelude.{◌≡◌, true, false, ◌+◌, ◌*◌, ◌<◌, ◌≤◌, ◌^◌, length};
 ghost use Rattle.model.specs.Trace.{number_after};
 ghost use Rattle.model.specs.Convert.{text_form, trace_form};
