@@ -1,5 +1,6 @@
 // Runs `bays::label` and `bays::index` on every byte, as an index and as a label; what it must write comes from the independent program.
 #![tactic(auto)]
+
 use bays::{BayIndex, BayLabel, Found};
 use testing::show;
 
