@@ -1,5 +1,6 @@
 // Document 01, "Accesses": reads and writes of the two memories, each kind with its own checks first.
 #![tactic(auto)]
+
 ghost use Rattle.std.specs.Prelude.{◌≡◌, List, ℕ, length};
 ghost use Rattle.model.specs.Checks.{refusal, shared_length};
 ghost use Rattle.model.specs.Sides.{side_of};
