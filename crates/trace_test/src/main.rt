@@ -1,6 +1,7 @@
 // Runs the reader and the writer of records on the cases of standard input: 60 bytes each, the record number, how many bytes are lent, an access in 16
 // bytes, and 40 bytes that begin with those lent, as the independent program wrote them.
 #![tactic(auto)]
+
 use access::Access;
 use testing::show;
 use trace::{Read, Write};
