@@ -1,9 +1,8 @@
 -- A history by a record more, case by case of what it knew; and the answer read back from its places.
-use Rattle.std.specs.Prelude.{◌≡◌, refl, ◌⊎◌, Bool, true, false, List, [], ◌∷◌, ◌++◌, map, ℕ, zero, suc, ◌+◌, ◌<◌, ◌≤◌, length}
+use Rattle.std.specs.Prelude.{◌≡◌, refl, ◌⊎◌, Bool, true, false, List, [], ◌∷◌, ◌++◌, map, ℕ, length}
 use Rattle.std.proofs.Common.{sym, ap, ◌∙◌, inl, inr, arith, length-append, lt-ltb, le-ltb}
 use Rattle.std.proofs.lemmas.List.{length-map}
 use Rattle.std.proofs.Math.Dec.{eqb-suc-zero}
-use Rattle.model.specs.Choice.{if◌then◌else◌}
 use Rattle.model.specs.Why.{Holding, Reason, because, places, told}
 use Rattle.model.specs.Why.{same, longer, shorter, emptied}
 use Rattle.model.specs.Why.{settled_by}
@@ -11,7 +10,6 @@ use Rattle.model.specs.Why.{Moved}
 use Rattle.model.specs.Why.{turned}
 use Rattle.model.specs.Why.{held_by}
 use Rattle.model.specs.Why.{is_up}
-use Rattle.fifos.specs.declared.Fifo.{Fifo}
 use Rattle.fifos.specs.Bridge.{entries_as}
 use Rattle.fifos.specs.Laws.{length_entries}
 use Rattle.history.specs.declared.Case.{Case}

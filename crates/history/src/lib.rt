@@ -1,5 +1,6 @@
 // Document 02, L7: what is known of an event position along a trace, record by record, and the answer that it gives.
 #![tactic(auto)]
+
 ghost use Rattle.std.specs.Prelude.{◌≡◌, List, map, ℕ, ◌≤◌};
 ghost use Rattle.model.specs.Why.{Reason, never, refused, because, places, told};
 ghost use Rattle.model.specs.Why.{held_by};
