@@ -13,7 +13,7 @@ use borrow.Author.Tests.{lt-ltb, le-ltb, ltb-true, ltb-false, eqb-true, eqb-fals
 use Rattle.model.specs.Choice.{if◌then◌else◌}
 use Rattle.model.proofs.TestLaws.{or_left, or_right}
 use Rattle.model.specs.Trace.{next_number, number_at}
-use Rattle.model.specs.Rescue.{Entry, skipped, Place, range, kept_at, moved, listed, after, scan, entry_numbers, numbers_of, entries, count, refused, rescue}
+use Rattle.model.specs.Rescue.{Entry, Place, range, kept_at, moved, listed, after, scan, entry_numbers, numbers_of, entries, count, refused, rescue}
 use Rattle.model.proofs.LentListLaws.{entry_three, numbers_length, numbers_append}
 use Rattle.model.proofs.ScanLaws.{entries_then}
 use Rattle.model.specs.Rescue.{entries_from}

@@ -1,5 +1,6 @@
 // Document 02, L14: a damaged trace rescued into a lent list of numbers, three an entry; and an entry read back from it.
 #![tactic(auto)]
+
 ghost use Rattle.std.specs.Prelude.{◌≡◌, List, [], ◌∷◌, ◌++◌, ℕ, ◌+◌, ◌*◌, ◌/◌, ◌<◌, ◌≤◌, length};
 ghost use Rattle.std.proofs.lemmas.List.Edits.{sets};
 ghost use Rattle.model.specs.Rescue.{range, entry_numbers, entry_at, rescue};
