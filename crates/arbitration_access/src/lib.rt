@@ -1,5 +1,6 @@
 // Document 01, "FIFOs and flags": claim and release, kinds 7 and 8, each with its own checks first.
 #![tactic(auto)]
+
 ghost use Rattle.std.specs.Prelude.{◌≡◌, false, List, [], ◌∷◌, ℕ, ◌<◌};
 ghost use Rattle.model.specs.Checks.{refusal, ◌for◌, nonzero, above};
 ghost use Rattle.model.specs.Sides.{side_of};
