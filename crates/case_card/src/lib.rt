@@ -2,6 +2,7 @@
 // out as lines of decimal numbers.
 // What stands where is said in oracle/src/programs/device/mod.rs.
 #![tactic(auto)]
+
 use access::Answer;
 use arbitration::{Arbitration, Pair};
 use card::Card;
