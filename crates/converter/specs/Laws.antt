@@ -1,6 +1,6 @@
 -- A chunk is turned by what its conversion promises; one chunk more behind others; and the output of a conversion that did not break off is that of the
 -- whole input.
-use Rattle.std.specs.Prelude.{◌≡◌, ◌⊎◌, Bool, false, not, ◌||◌, length, take, eqb}
+use Rattle.std.specs.Prelude.{◌≡◌, ◌⊎◌, Bool, false, ◌||◌, length, take, eqb}
 use Rattle.std.proofs.Math.Path.{refl, ap}
 use Rattle.std.proofs.Common.{sym, ◌∙◌, inl, inr, zero-add, arith, length-append, length-take-le, lit≤, ne_eqb}
 use Rattle.std.proofs.Math.Bool.{true}
