@@ -1,5 +1,6 @@
 // Document 02, L4: ARBUTIL, all arbitration flags in one register. A write is a claim or a release of each pair, one after another.
 #![tactic(auto)]
+
 ghost use Rattle.std.specs.Prelude.{◌≡◌, not, List, ℕ, ◌*◌, ◌^◌, ◌≤◌, ◌<◌, eqb};
 ghost use Rattle.model.specs.Choice.{if◌then◌else◌};
 ghost use Rattle.model.specs.Sides.{side_of};
