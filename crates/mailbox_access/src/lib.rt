@@ -1,5 +1,6 @@
 // Document 01, "Mailboxes": mailbox write and read, kinds 9 and 10, each with its own check first.
 #![tactic(auto)]
+
 ghost use Rattle.std.specs.Prelude.{List, [], ℕ};
 ghost use Rattle.model.specs.Sides.{side_of};
 ghost use Rattle.model.specs.Mailboxes.{mail_for, label_for};
