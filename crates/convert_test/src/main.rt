@@ -2,6 +2,7 @@
 // byte first, as the independent program wrote them: 0 for a text and 1 for a trace, how many bytes are read at a time, and how many it has. Behind each
 // output stands a line: how many accesses were turned, and 1 where it was refused.
 #![tactic(auto)]
+
 ghost use Rattle.std.specs.Prelude.{◌≡◌, ◌+◌, ◌<◌, ◌≤◌, length};
 
 use convert::Form;
