@@ -1,5 +1,6 @@
 // Document 02, L14: a chunk of a damaged trace scanned, and what it gives written: a line an entry, or the kept records anew.
 #![tactic(auto)]
+
 ghost use Rattle.std.specs.Prelude.{◌≡◌, List, [], ◌∷◌, ℕ, ◌+◌, ◌-◌, ◌*◌, ◌<◌, ◌≤◌, ◌^◌, length};
 ghost use Rattle.model.specs.Rescue.{range};
 ghost use Rattle.model.specs.RescueText.{tally};
