@@ -1,5 +1,6 @@
 // Document 01, "FIFOs and flags", with the answers of document 02, L2: take and put, kinds 5 and 6, each with its own checks first.
 #![tactic(auto)]
+
 ghost use Rattle.std.specs.Prelude.{◌≡◌, List, [], ◌∷◌, ℕ, ◌<◌};
 ghost use Rattle.model.specs.Checks.{refusal, ◌for◌, above};
 ghost use Rattle.model.specs.Sides.{side_of, not_by};
