@@ -1,5 +1,6 @@
 // Document 01, "Interrupt registers": interrupt read, interrupt write, line and external pin, kinds 11, 12, 13 and 16, each with its own checks first.
 #![tactic(auto)]
+
 ghost use Rattle.std.specs.Prelude.{◌≡◌, true, List, [], ◌∷◌, ℕ};
 ghost use Rattle.model.specs.Choice.{if◌then◌else◌};
 ghost use Rattle.model.specs.Checks.{refusal, ◌for◌, nonzero};
