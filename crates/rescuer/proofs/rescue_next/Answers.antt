@@ -1,0 +1,13 @@
+-- What is left of the last chunk and what is read behind it are scanned together, by what their scan promises.
+use Rattle.std.proofs.Common.{◌≡◌, refl, arith, length}
+use Rattle.rescuer.specs.Laws.{rescued}
+use Rattle.rescuer.proofs.rescue_next.Goals as goal
+
+pub returns-clause-turned : goal.returns-clause-turned
+returns-clause-turned c =
+    let k = c.keep-kept in
+    let r = c.read_chunk-chunk in
+    let kept : length k.new.buffer ≡ 65520 = omega arith in
+    let read : length r.new.buffer ≡ 65520 = omega arith in
+    rescued c.args.output c.requires.going kept read k.ensures r.ensures refl c.least-least.ensures c.rescue_chunk-rescued.ensures c.records_told-told.ensures
+    c.goes_on-more.ensures
