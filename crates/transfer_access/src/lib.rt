@@ -1,5 +1,6 @@
 // Document 01, "Transfer": the start, kind 14, and the step, kind 15, each with its own checks first.
 #![tactic(auto)]
+
 ghost use Rattle.std.specs.Prelude.{◌≡◌, true, not, List, [], ◌∷◌, ℕ, ◌+◌, ◌*◌, ◌/◌, ◌<◌, ◌≤◌, length};
 ghost use Rattle.model.specs.Checks.{refusal, ◌for◌, nonzero};
 ghost use Rattle.model.specs.Events.{Event, mask};
