@@ -2,6 +2,7 @@
 // four bytes, least byte first, as the independent program wrote them: 0 for a lent list, 1 for a line an entry and 2 for the kept records anew; how many
 // numbers the list has, or how many bytes are read at a time; and how many bytes the trace has.
 #![tactic(auto)]
+
 ghost use Rattle.std.specs.Prelude.{◌≡◌, true, ◌+◌, ◌<◌, ◌≤◌, ◌^◌, length};
 ghost use Rattle.rescue_chunk.specs.Bridge.{Small};
 
