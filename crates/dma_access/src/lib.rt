@@ -1,5 +1,6 @@
 // Document 02, L4: the DMA registers read and written, and the start that a write of DMACTL is.
 #![tactic(auto)]
+
 ghost use Rattle.std.specs.Prelude.{List, ℕ};
 ghost use Rattle.model.specs.Sides.{side_of};
 ghost use Rattle.model.specs.Dma.{request_in};
