@@ -1,5 +1,6 @@
 // Document 01, "Accesses": an access of the card.
 #![tactic(auto)]
+
 ghost use Rattle.std.specs.Prelude.{◌≡◌, List, ℕ, length};
 ghost use Rattle.model.specs.Accesses.{fit, access};
 ghost use Rattle.access.specs.declared.Answer.TheVariants.{Refused};
