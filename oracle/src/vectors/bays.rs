@@ -8,9 +8,9 @@ fn line(number: u8) -> String {
     let label = label(number).unwrap_or(0);
     let way_back = match index(number) {
         Some(index) => format!("(at {index})"),
-        None => "noBay".to_string(),
+        None => "no_bay".to_string(),
     };
-    format!("bayCase {number} {label} {way_back}")
+    format!("bay_case {number} {label} {way_back}")
 }
 
 pub fn text() -> String {

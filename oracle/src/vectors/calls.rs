@@ -27,12 +27,12 @@ struct Sort {
 
 const ACCESSES: Sort = Sort {
     holds: "a list of direct and register accesses with its answers, and what it leaves",
-    unfolded: "access registerAccess sound freshCard readDword writeDword",
+    unfolded: "access register_access sound fresh_card read_dword write_dword",
 };
 
 const BURSTS: Sort = Sort {
     holds: "a list of direct and register accesses and bursts with its answers, and what it leaves",
-    unfolded: "access registerAccess sound freshCard readDword writeDword burst decode",
+    unfolded: "access register_access sound fresh_card read_dword write_dword burst decode",
 };
 
 fn of(list: &CallList, Sort { holds, unfolded }: Sort) -> String {

@@ -52,14 +52,14 @@ fn case(settings: &Settings, passes: bool) -> String {
     let (number, card) = fresh(*settings);
     assert_eq!(number == 0, passes, "{settings:?}");
     let (settings, card) = (text::settings(settings), text::card(&card));
-    format!("freshCase {settings} {number} {card}")
+    format!("fresh_case {settings} {number} {card}")
 }
 
 pub fn text() -> String {
     let cases = CASES
         .iter()
         .map(|(settings, passes)| case(settings, *passes));
-    let definitions = text::agreement("FreshCase", "FreshAgrees", "cases freshCard", cases);
+    let definitions = text::agreement("FreshCase", "FreshAgrees", "cases fresh_card", cases);
     text::file(
         "settings, and the number and the card that they give",
         &definitions,

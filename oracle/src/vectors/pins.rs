@@ -48,7 +48,7 @@ fn cases() -> Vec<(u8, u8, u32)> {
 
 fn line(mode: u8, pins: u8, data: u32) -> String {
     let decoded = decimal(decode(mode, pins, data).numbers());
-    format!("pinCase {mode} {pins} {data} {decoded}")
+    format!("pin_case {mode} {pins} {data} {decoded}")
 }
 
 pub fn text() -> String {

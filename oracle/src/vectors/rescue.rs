@@ -120,7 +120,7 @@ fn bytes(trace: &[u8]) -> String {
 
 fn entries_case(trace: &[u8]) -> String {
     let entries = text::bracketed(entries(trace), entry);
-    format!("entriesCase {} {entries}", bytes(trace))
+    format!("entries_case {} {entries}", bytes(trace))
 }
 
 fn list_case(trace: &[u8], numbers: usize) -> String {
@@ -131,7 +131,7 @@ fn list_case(trace: &[u8], numbers: usize) -> String {
         Err(refusal) => format!("refused {refusal}"),
     };
     let [before, after] = [before, after].map(|list| text::bracketed(&list, u64::to_string));
-    format!("listCase {} {before} ({answer}) {after}", bytes(trace))
+    format!("list_case {} {before} ({answer}) {after}", bytes(trace))
 }
 
 pub fn text() -> String {
@@ -149,7 +149,7 @@ pub fn text() -> String {
         scan,
         &entries,
     );
-    let rescue = format!("{scan} numbersOf rescue");
+    let rescue = format!("{scan} numbers_of rescue");
     let mut lists = text::portions(PORTION, "lists", "ListCase", "ListsAgree", &rescue, &lists);
     entries[0].insert_str(0, "-- a trace; its entries\n");
     let lent = "-- a trace and a lent list; the answer, and the list afterwards\n";

@@ -83,6 +83,6 @@ impl Run {
 
 const AGREES: &str = "\
 agrees : RunAgrees first entries last
-unfolding first entries last access sound freshCard readDword writeDword
+unfolding first entries last access sound fresh_card read_dword write_dword
 agrees = refl
 ";

@@ -214,7 +214,7 @@ fn random(cases: &mut Cases) {
 }
 
 fn case((card, sound): &(Card, bool)) -> String {
-    format!("soundCase {} {sound}", text::card(card))
+    format!("sound_case {} {sound}", text::card(card))
 }
 
 pub fn text() -> String {

@@ -205,12 +205,12 @@ fn line(case: &Case) -> String {
         count,
     } = source(*settings, &shared, &window, *transfer);
     let memory = match memory {
-        Memory::Shared => "sharedMemory",
-        Memory::Window => "windowMemory",
+        Memory::Shared => "shared_memory",
+        Memory::Window => "window_memory",
     };
     let (settings, request) = (text::settings(settings), text::request(transfer));
     format!(
-        "sourceCase {settings} {shared_length} {window_length} {request} \
+        "source_case {settings} {shared_length} {window_length} {request} \
          (part {memory} {offset} {count})"
     )
 }

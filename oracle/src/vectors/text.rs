@@ -87,9 +87,9 @@ pub fn portions(
                 "{name}{number} : List {case}\n\
                  {name}{number} =\n\
                  {entries}\n\
-                 agrees-{name}{number} : {agree} {name}{number}\n\
+                 agrees_{name}{number} : {agree} {name}{number}\n\
                  unfolding {name}{number} {unfolded}\n\
-                 agrees-{name}{number} = refl\n"
+                 agrees_{name}{number} = refl\n"
             )
         })
         .collect()
@@ -128,24 +128,24 @@ fn changes(card: &Card) -> Vec<(&'static str, String)> {
     let mut changes = Vec::new();
     if card.fifos != untouched.fifos {
         let fifos = bracketed(&card.fifos, |fifo| bracketed(fifo, u32::to_string));
-        changes.push(("withFifos", fifos));
+        changes.push(("with_fifos", fifos));
     }
     if card.pairs != untouched.pairs {
-        changes.push(("withArbitration", bracketed(&card.pairs, pair)));
+        changes.push(("with_arbitration", bracketed(&card.pairs, pair)));
     }
     if card.mailboxes != untouched.mailboxes {
-        changes.push(("withMailboxes", mail(&card.mailboxes)));
+        changes.push(("with_mailboxes", mail(&card.mailboxes)));
     }
     if card.register_numbers() != untouched.register_numbers() {
         let numbers = decimal(card.register_numbers());
-        changes.push(("withInterrupts", format!("(interrupts {numbers})")));
+        changes.push(("with_interrupts", format!("(interrupts {numbers})")));
     }
     if let Some(Running { transfer, moved }) = &card.running {
         let running = format!("(running {} {moved})", request(transfer));
-        changes.push(("withTransfer", running));
+        changes.push(("with_transfer", running));
     }
     if card.dma != untouched.dma {
-        changes.push(("withDma", dma(&card.dma)));
+        changes.push(("with_dma", dma(&card.dma)));
     }
     changes
 }

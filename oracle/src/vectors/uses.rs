@@ -3,49 +3,49 @@
 use std::collections::BTreeSet;
 
 /// Modules, and what may be used of each.
-const OFFERED: [(&str, &[&str]); 21] = [
-    ("mathlib.Core.Path", &["refl"]),
-    ("mathlib.Core.Bool", &["true", "false"]),
-    ("mathlib.Core.List", &["List", "[]", "_∷_"]),
-    ("lib.ListN", &["replicate"]),
-    ("Rattle·model.specs.Lanes", &["readDword", "writeDword"]),
-    ("Rattle·model.specs.Transfer", &["running"]),
+const OFFERED: [(&str, &[&str]); 18] = [
     (
-        "Rattle·model.specs.State",
+        "Rattle.std.specs.Prelude",
+        &["refl", "true", "false", "List", "[]", "◌∷◌", "replicate"],
+    ),
+    ("Rattle.model.specs.Lanes", &["read_dword", "write_dword"]),
+    ("Rattle.model.specs.Transfer", &["running"]),
+    (
+        "Rattle.model.specs.State",
         &[
             "World",
             "sound",
-            "freshCard",
-            "freshWorld",
-            "withFifos",
-            "withArbitration",
-            "withMailboxes",
-            "withInterrupts",
-            "withTransfer",
-            "withDma",
+            "fresh_card",
+            "fresh_world",
+            "with_fifos",
+            "with_arbitration",
+            "with_mailboxes",
+            "with_interrupts",
+            "with_transfer",
+            "with_dma",
         ],
     ),
-    ("Rattle·model.specs.Runs", &["Entry"]),
+    ("Rattle.model.specs.Runs", &["Entry"]),
     (
-        "Rattle·model.specs.Accesses",
+        "Rattle.model.specs.Accesses",
         &["Access", "Answer", "access"],
     ),
-    ("Rattle·model.specs.Registers", &["registerAccess"]),
+    ("Rattle.model.specs.Registers", &["register_access"]),
     (
-        "Rattle·model.specs.Source",
-        &["sharedMemory", "windowMemory", "source"],
+        "Rattle.model.specs.Source",
+        &["shared_memory", "window_memory", "source"],
     ),
-    ("Rattle·model.specs.Pins", &["decode"]),
-    ("Rattle·model.specs.Bursts", &["burst"]),
-    ("Rattle·model.specs.Bays", &["at", "noBay"]),
+    ("Rattle.model.specs.Pins", &["decode"]),
+    ("Rattle.model.specs.Bursts", &["burst"]),
+    ("Rattle.model.specs.Bays", &["at", "no_bay"]),
     (
-        "Rattle·model.specs.Rescue",
+        "Rattle.model.specs.Rescue",
         &[
             "scan",
             "listed",
             "after",
             "entries",
-            "numbersOf",
+            "numbers_of",
             "rescue",
             "kept",
             "skipped",
@@ -54,41 +54,41 @@ const OFFERED: [(&str, &[&str]); 21] = [
         ],
     ),
     (
-        "Rattle·model.specs.Bench",
+        "Rattle.model.specs.Bench",
         &[
             "q",
             "r",
-            "_gives_",
+            "◌gives◌",
             "d",
             "g",
             "p",
             "bw",
             "br",
-            "_gets_",
-            "_gets_leaving_",
+            "◌gets◌",
+            "◌gets◌leaving◌",
             "CallCase",
             "bench",
         ],
     ),
-    ("Rattle·model.specs.Trace", &["readRecord"]),
-    ("Rattle·model.specs.Replay", &["replayRecords", "replay"]),
-    ("Rattle·model.specs.Convert", &["written"]),
+    ("Rattle.model.specs.Trace", &["read_record"]),
+    ("Rattle.model.specs.Replay", &["replay_records", "replay"]),
+    ("Rattle.model.specs.Convert", &["written"]),
     (
-        "Rattle·model.specs.Why",
+        "Rattle.model.specs.Why",
         &[
             "never",
-            "clearedBy",
-            "setBy",
+            "cleared_by",
+            "set_by",
             "held",
             "history",
-            "accessesFrom",
+            "accesses_from",
             "refused",
             "because",
             "why",
         ],
     ),
     (
-        "Rattle·cases·specs.specs.Vectors",
+        "Rattle.cases.specs.Vectors",
         &[
             "settings",
             "pair",
@@ -103,29 +103,29 @@ const OFFERED: [(&str, &[&str]); 21] = [
             "RunAgrees",
             "CallsAgree",
             "SourceCase",
-            "sourceCase",
+            "source_case",
             "SourcesAgree",
             "PinCase",
-            "pinCase",
+            "pin_case",
             "PinsAgree",
             "BayCase",
-            "bayCase",
+            "bay_case",
             "BaysAgree",
             "EntriesCase",
-            "entriesCase",
+            "entries_case",
             "EntriesAgree",
             "ListCase",
-            "listCase",
+            "list_case",
             "ListsAgree",
             "WhyCase",
-            "whyCase",
+            "why_case",
             "holding",
             "WhysAgree",
             "SoundCase",
-            "soundCase",
+            "sound_case",
             "SoundnessAgrees",
             "FreshCase",
-            "freshCase",
+            "fresh_case",
             "FreshAgrees",
         ],
     ),
@@ -156,8 +156,8 @@ fn words(text: &str) -> BTreeSet<&str> {
 /// A name that several modules offer tells nothing of which one is meant: it is used of the one of
 /// which another name is used too.
 fn use_line(module: &str, names: &[&'static str], words: &BTreeSet<&str>) -> Option<String> {
-    // an operator is offered as `_∷_` and written without its places, in one sign or more
-    let signs = |name: &'static str| name.split('_').filter(|sign| !sign.is_empty());
+    // an operator is offered as `◌∷◌` and written without its places, in one sign or more
+    let signs = |name: &'static str| name.split('◌').filter(|sign| !sign.is_empty());
     let used = |name: &&&'static str| signs(name).all(|sign| words.contains(sign));
     let names: Vec<&str> = names.iter().filter(used).copied().collect();
     let is_meant = names.iter().any(|name| is_offered_once(name));
@@ -176,35 +176,35 @@ mod tests {
     #[test]
     fn only_what_is_used() {
         let text = "-- a list of mail\nlast : World\nlast = world (untouched x) (bytes [])\n";
-        let lines = "use mathlib.Core.List.{[]}\n\
-                     use Rattle·model.specs.State.{World}\n\
-                     use Rattle·cases·specs.specs.Vectors.{untouched, world, bytes}\n";
+        let lines = "use Rattle.std.specs.Prelude.{[]}\n\
+                     use Rattle.model.specs.State.{World}\n\
+                     use Rattle.cases.specs.Vectors.{untouched, world, bytes}\n";
         assert_eq!(uses(text), lines);
     }
 
     #[test]
     fn nothing_of_its_own() {
         let text = "entries : List Entry\nentries = []\nx : Access\nunfolding entries source\n";
-        let lines = "use mathlib.Core.List.{List, []}\n\
-                     use Rattle·model.specs.Runs.{Entry}\n\
-                     use Rattle·model.specs.Accesses.{Access}\n\
-                     use Rattle·model.specs.Source.{source}\n";
+        let lines = "use Rattle.std.specs.Prelude.{List, []}\n\
+                     use Rattle.model.specs.Runs.{Entry}\n\
+                     use Rattle.model.specs.Accesses.{Access}\n\
+                     use Rattle.model.specs.Source.{source}\n";
         assert_eq!(uses(text), lines);
     }
 
     #[test]
     fn operators_by_their_sign() {
         let text = "x = q 1 gives r 0 ∷ y";
-        let lines = "use mathlib.Core.List.{_∷_}\n\
-                     use Rattle·model.specs.Bench.{q, r, _gives_}\n";
+        let lines = "use Rattle.std.specs.Prelude.{◌∷◌}\n\
+                     use Rattle.model.specs.Bench.{q, r, ◌gives◌}\n";
         assert_eq!(uses(text), lines);
     }
 
     #[test]
     fn calls_by_their_letters() {
         let text = "x = d 1 gets r 0 ∷ g 0x04bc gets r 0 ∷ y";
-        let lines = "use mathlib.Core.List.{_∷_}\n\
-                     use Rattle·model.specs.Bench.{r, d, g, _gets_}\n";
+        let lines = "use Rattle.std.specs.Prelude.{◌∷◌}\n\
+                     use Rattle.model.specs.Bench.{r, d, g, ◌gets◌}\n";
         assert_eq!(uses(text), lines);
     }
 
@@ -212,22 +212,22 @@ mod tests {
     fn bursts_by_their_words() {
         let text =
             "x = bw 1 0 0 [] gets r 0 0 0 ∷ br 1 0 0 (p 0 0 ∷ y) [] gets r 14 0 0 leaving []";
-        let lines = "use mathlib.Core.List.{[], _∷_}\n\
-                     use Rattle·model.specs.Bench.{r, p, bw, br, _gets_, _gets_leaving_}\n";
+        let lines = "use Rattle.std.specs.Prelude.{[], ◌∷◌}\n\
+                     use Rattle.model.specs.Bench.{r, p, bw, br, ◌gets◌, ◌gets◌leaving◌}\n";
         assert_eq!(uses(text), lines);
     }
 
     #[test]
     fn what_several_offer_by_what_stands_beside_it() {
-        let text = "x = whyCase [] [] 2 0 (refused 43)\nunfolding why";
-        let lines = "use mathlib.Core.List.{[]}\n\
-                     use Rattle·model.specs.Why.{refused, why}\n\
-                     use Rattle·cases·specs.specs.Vectors.{whyCase}\n";
+        let text = "x = why_case [] [] 2 0 (refused 43)\nunfolding why";
+        let lines = "use Rattle.std.specs.Prelude.{[]}\n\
+                     use Rattle.model.specs.Why.{refused, why}\n\
+                     use Rattle.cases.specs.Vectors.{why_case}\n";
         assert_eq!(uses(text), lines);
-        let text = "x = listCase [] [] (refused 60) []\nunfolding rescue";
-        let lines = "use mathlib.Core.List.{[]}\n\
-                     use Rattle·model.specs.Rescue.{rescue, refused}\n\
-                     use Rattle·cases·specs.specs.Vectors.{listCase}\n";
+        let text = "x = list_case [] [] (refused 60) []\nunfolding rescue";
+        let lines = "use Rattle.std.specs.Prelude.{[]}\n\
+                     use Rattle.model.specs.Rescue.{rescue, refused}\n\
+                     use Rattle.cases.specs.Vectors.{list_case}\n";
         assert_eq!(uses(text), lines);
     }
 }

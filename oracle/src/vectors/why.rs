@@ -17,8 +17,9 @@ const MOST_ACCESSES: usize = 12;
 const MOST_PUTS: usize = 34;
 
 /// What the equations unfold, beside their own list.
-const UNFOLDED: &str = "why history accessesFrom written readRecord replay replayRecords access \
-                        bench sound freshCard readDword writeDword";
+const UNFOLDED: &str =
+    "why history accesses_from written read_record replay replay_records access \
+                        bench sound fresh_card read_dword write_dword";
 
 /// What stands behind the records of the accesses.
 enum Behind {
@@ -68,7 +69,7 @@ impl Cases {
         });
         let behind = behind.text();
         self.0.push(format!(
-            "whyCase {accesses} {behind} {side} {position} ({told})"
+            "why_case {accesses} {behind} {side} {position} ({told})"
         ));
     }
 }
@@ -77,8 +78,8 @@ fn told(told: &Told) -> String {
     let holding = |holding: &Holding| format!("holding {} {}", holding.entry, holding.record);
     match told {
         Ok(Why::Never) => "because never".to_string(),
-        Ok(Why::Cleared(record)) => format!("because (clearedBy {record})"),
-        Ok(Why::Set(record)) => format!("because (setBy {record})"),
+        Ok(Why::Cleared(record)) => format!("because (cleared_by {record})"),
+        Ok(Why::Set(record)) => format!("because (set_by {record})"),
         Ok(Why::Held(held)) => format!("because (held {})", text::bracketed(held, holding)),
         Err(refusal) => format!("refused {refusal}"),
     }

@@ -36,7 +36,7 @@ fn memory(length: u32, marks: &[u32], rng: &mut Rng) -> Vec<u8> {
 pub fn first_text(fresh: Option<Settings>, first: &World) -> String {
     match fresh {
         Some(settings) => format!(
-            " freshWorld {} {} {}",
+            " fresh_world {} {} {}",
             text::settings(&settings),
             text::bytes(&first.shared),
             text::bytes(&first.window)
