@@ -9,16 +9,25 @@ use std::os::unix::fs::{symlink, PermissionsExt};
 use std::path::{Path, PathBuf};
 use std::process::{Child, ChildStderr, Command};
 use std::sync::{Mutex, MutexGuard, PoisonError};
-use std::time::SystemTime;
+use std::time::{Duration, SystemTime};
 
 use oracle::why::USAGE;
 
 use support::{command, fed, run, Ended, Folder, ROOT};
 
 /// All that the launcher calls besides `rt`, and what the scripts here call.
-const TOOLS: [&str; 16] = [
-    "awk", "bash", "cat", "chmod", "dirname", "env", "find", "flock", "ls", "mkdir", "readlink",
-    "rm", "sh", "tail", "tee", "touch",
+const TOOLS: [&str; 18] = [
+    "awk", "bash", "cat", "chmod", "cmp", "dirname", "env", "find", "flock", "grep", "ls", "mkdir",
+    "readlink", "rm", "sh", "tail", "tee", "touch",
+];
+
+/// The crates that are programs of these tests.
+const PROGRAMS: [&str; 5] = [
+    "replay",
+    "to_trace",
+    "rescue_list",
+    "rescue_trace",
+    "why_program",
 ];
 
 const CRATES: &str = "# the crates\nbase:\nother: base\nmiddle: base io\n\
@@ -26,25 +35,36 @@ const CRATES: &str = "# the crates\nbase:\nother: base\nmiddle: base io\n\
                       rescue_list: middle io\nrescue_trace: middle base io\n\
                       why_program: middle io\n";
 
-/// Links a program where it finds no stamp, as `rt` does.
+/// Links a program where it finds no stamp, and runs it, as `rt run` does in the folder of a crate.
 const RT: &str = r#"#!/bin/sh
-echo "$@" >>calls
-echo 'rt: base proved (unchanged since it was last proved)'
-echo 'rt: middle proved (7 s)'
+crate=${PWD##*/}
+echo "$@ $crate" >>../../calls
+exec 3>&1 1>&2
+echo 'rt: chose --jobs 2 for base'
+echo 'crate base: modules loaded=0 checked=40'
+echo 'logic=proved functions=1'
+echo 'crate middle: modules loaded=1 checked=7'
+echo 'logic=proved functions=12'
 echo 'a word of the prover'
-echo "rt: $2 proved (1 s)"
-[ ! -f target/stamp/$2 ] || exit 0
-mkdir -p target/bin target/stamp
-printf '#!/bin/sh\nexec cat\n' >target/bin/$2
-chmod +x target/bin/$2
-touch target/stamp/$2
+echo "crate $crate: modules loaded=8 checked=1"
+echo 'logic=proved functions=3'
+if [ ! -f out/$crate.stamp ] || [ ! -f out/$crate ]; then
+    mkdir -p out
+    printf '#!/bin/sh\nexec cat\n' >out/$crate
+    chmod +x out/$crate
+    touch out/$crate.stamp
+fi
+echo "rt: running out/$crate; to give it other input, run that file yourself"
+out/$crate >&3
+echo 'what the program writes' >&3
+exit 2
 "#;
 
 const BUILDING: &str = "replay: building the program, and proving every crate that it stands on; \
                         this takes some minutes, once\n";
-const BUILT: &str = "replay: building: 1 of 3 proved: base\n\
-                     replay: building: 2 of 3 proved: middle\n\
-                     replay: building: 3 of 3 proved: replay\n";
+const BUILT: &str = "replay: building: 1 of at most 3 proved: base\n\
+                     replay: building: 2 of at most 3 proved: middle\n\
+                     replay: building: 3 of at most 3 proved: replay\n";
 
 const INPUT: &[u8] = b"what the program reads, and nobody before it\n";
 
@@ -65,11 +85,16 @@ impl Repository {
         for name in ["launch", "replay", "to-trace"] {
             repository.copy(name);
         }
-        for folder in ["crates", "tools"] {
-            fs::create_dir(repository.path(folder)).expect("a new folder");
+        for program in PROGRAMS {
+            let source = repository.path(&format!("crates/{program}/src"));
+            fs::create_dir_all(source).expect("a new folder");
+            let main = format!("crates/{program}/src/main.rt");
+            repository.folder.file(&main, b"");
+            let stdout = format!("crates/{program}/stdout");
+            repository.folder.file(&stdout, b"what it must write\n");
         }
+        fs::create_dir(repository.path("tools")).expect("a new folder");
         repository.folder.file("crates.txt", CRATES.as_bytes());
-        repository.folder.file("crates/main.rt", b"");
         for tool in TOOLS {
             let link = repository.path("tools").join(tool);
             symlink(found(tool), link).expect("a link");
@@ -138,13 +163,27 @@ impl Repository {
         fs::read_to_string(self.path("calls")).unwrap_or_default()
     }
 
-    /// Something that the program is made of is newer.
+    /// All else is newer.
     fn make_old(&self) {
-        let program = self.path("target/bin/replay");
-        let program = File::options().append(true).open(program);
-        let program = program.expect("a program");
-        let aged = program.set_modified(SystemTime::UNIX_EPOCH);
+        self.set_modified("crates/replay/out/replay", SystemTime::UNIX_EPOCH);
+    }
+
+    fn set_modified(&self, name: &str, time: SystemTime) {
+        let file = File::options().append(true).open(self.path(name));
+        let aged = file.expect("a file").set_modified(time);
         aged.expect("our own file");
+    }
+
+    /// What `rt ci` leaves of the replay: the program, and what it wrote when it was run.
+    fn with_checked(wrote: &[u8]) -> Repository {
+        let repository = Repository::with_rt(RT);
+        let out = repository.path("crates/replay/out");
+        fs::create_dir(out).expect("a new folder");
+        repository.folder.file("crates/replay/out/stdout", wrote);
+        let program = b"#!/bin/sh\nexec cat\n";
+        let program = repository.folder.file("crates/replay/out/replay", program);
+        fs::set_permissions(program, fs::Permissions::from_mode(0o755)).expect("our own file");
+        repository
     }
 }
 
@@ -169,7 +208,7 @@ fn what_is_missing_is_built_once() {
     let repository = Repository::with_rt(RT);
     is_built_and_run(&repository.start());
     is_run(&repository.start());
-    assert_eq!(repository.calls(), "check replay\n");
+    assert_eq!(repository.calls(), "run replay\n");
 }
 
 #[test]
@@ -184,9 +223,9 @@ fn what_is_old_is_built_once_more() {
 #[test]
 fn what_was_not_run_or_was_removed_is_built_again() {
     let repository = Repository::with_rt(RT);
-    for part in ["target/stamp/replay", "target/bin/replay", "target"] {
+    for part in ["out/replay.stamp", "out/replay", "out"] {
         is_built_and_run(&repository.start());
-        let part = repository.path(part);
+        let part = repository.path("crates/replay").join(part);
         let removed = if part.is_dir() {
             fs::remove_dir_all(part)
         } else {
@@ -194,6 +233,55 @@ fn what_was_not_run_or_was_removed_is_built_again() {
         };
         removed.expect("a part of the build");
     }
+}
+
+#[test]
+fn what_is_made_of_a_newer_file_is_old() {
+    for part in [
+        "crates.txt",
+        "crates/replay/stdout",
+        "crates/why_program/src/main.rt",
+    ] {
+        let repository = Repository::with_rt(RT);
+        is_built_and_run(&repository.start());
+        let later = SystemTime::now() + Duration::from_secs(60);
+        repository.set_modified(part, later);
+        repository.start();
+        assert_eq!(repository.calls(), "run replay\nrun replay\n", "{part}");
+    }
+}
+
+/// Nothing of a program is made of what `rt` makes of any crate.
+#[test]
+fn what_rt_makes_is_no_source() {
+    let repository = Repository::with_rt(RT);
+    is_built_and_run(&repository.start());
+    let out = repository.path("crates/to_trace/out/rlib");
+    fs::create_dir_all(out).expect("a new folder");
+    for name in ["crates/replay/out/later", "crates/to_trace/out/rlib/later"] {
+        repository.folder.file(name, b"");
+        let later = SystemTime::now() + Duration::from_secs(60);
+        repository.set_modified(name, later);
+    }
+    is_run(&repository.start());
+    assert_eq!(repository.calls(), "run replay\n");
+}
+
+#[test]
+fn what_the_gate_ran_well_is_not_built_again() {
+    let repository = Repository::with_checked(b"what it must write\n");
+    is_run(&repository.start());
+    assert_eq!(repository.calls(), "");
+    repository.make_old();
+    is_built_and_run(&repository.start());
+    assert_eq!(repository.calls(), "run replay\n");
+}
+
+#[test]
+fn what_the_gate_ran_and_found_wrong_is_built_again() {
+    let repository = Repository::with_checked(b"what it must not write\n");
+    is_built_and_run(&repository.start());
+    assert_eq!(repository.calls(), "run replay\n");
 }
 
 #[test]
@@ -205,7 +293,7 @@ fn a_dash_in_a_name_is_an_underscore_in_its_crate() {
         let to_trace = repository.command(repository.path("to-trace"));
         fed(to_trace, INPUT).is(INPUT, told, 0);
     }
-    assert_eq!(repository.calls(), "check to_trace\n");
+    assert_eq!(repository.calls(), "run to_trace\n");
 }
 
 #[test]
@@ -222,10 +310,7 @@ fn an_option_chooses_the_crate() {
         let words = [options, &[file]].concat();
         is_run(&run(repository.rescue(&words)));
     }
-    assert_eq!(
-        repository.calls(),
-        "check rescue_list\ncheck rescue_trace\n"
-    );
+    assert_eq!(repository.calls(), "run rescue_list\nrun rescue_trace\n");
 }
 
 #[test]
@@ -267,7 +352,7 @@ fn side_and_position_go_to_the_program() {
     let out = [b"18446744073709551616 10\n", INPUT].concat();
     let words = [file, "18446744073709551616", "10"];
     run(repository.why(&words)).is(&out, "", 0);
-    assert_eq!(repository.calls(), "check why_program\n");
+    assert_eq!(repository.calls(), "run why_program\n");
 }
 
 #[test]
@@ -309,15 +394,31 @@ fn the_usage_of_the_program_is_that_of_the_launcher() {
 #[test]
 fn a_failed_build_is_told_and_nothing_is_run() {
     let many = "i=0\nwhile [ $i -lt 30 ]; do i=$((i + 1)); echo line $i; done\nexit 1\n";
-    let repository = Repository::with_rt(&format!("#!/bin/sh\n{many}"));
+    let repository = Repository::with_rt(&format!("#!/bin/sh\nexec 1>&2\n{many}"));
     let last: String = (11..=30).map(|i| format!("line {i}\n")).collect();
-    let log = repository.path("target/replay-build.log");
+    let log = repository.path("crates/replay/out/build.log");
     let log = log.display();
     let told = format!("replay: the program could not be built; {log} has all that rt said\n");
     for _ in 0..2 {
         repository
             .start()
             .is(b"", &format!("{BUILDING}{last}{told}"), 1);
+    }
+}
+
+/// `rt` leaves the program of an earlier build, and its stamp, where a library is no longer proved.
+#[test]
+fn what_was_built_before_is_not_run_where_a_build_fails() {
+    let fails = "[ ! -f ../../broken ] || exit 1\nexec 3>&1 1>&2\n";
+    let repository = Repository::with_rt(&RT.replace("exec 3>&1 1>&2\n", fails));
+    is_built_and_run(&repository.start());
+    repository.folder.file("broken", b"");
+    repository.make_old();
+    let log = repository.path("crates/replay/out/build.log");
+    let log = log.display();
+    let told = format!("replay: the program could not be built; {log} has all that rt said\n");
+    for _ in 0..2 {
+        repository.start().is(b"", &format!("{BUILDING}{told}"), 1);
     }
 }
 
@@ -374,7 +475,7 @@ fn rest_is(mut said: impl Read, expected: &str) {
 
 #[test]
 fn of_two_that_start_together_one_builds() {
-    let waits = RT.replace("echo \"$@\"", "read -r _ <gate\necho \"$@\"");
+    let waits = RT.replace("crate=", "read -r _ <../../gate\ncrate=");
     let repository = Repository::with_rt(&waits);
     let gate = repository.path("gate");
     let made = Command::new("mkfifo").arg(&gate).status();
@@ -393,18 +494,18 @@ fn of_two_that_start_together_one_builds() {
     for child in [first, second] {
         Ended::of(child).is(b"", "", 0);
     }
-    assert_eq!(repository.calls(), "check replay\n");
+    assert_eq!(repository.calls(), "run replay\n");
 }
 
 #[test]
 fn two_programs_of_a_pipeline_are_built_one_after_the_other() {
-    let repository = Repository::with_rt(&format!("{RT}echo built >>calls\n"));
+    let repository = Repository::with_rt(&RT.replace("exit 2", "echo built >>../../calls"));
     let mut pipeline = repository.command("bash");
     pipeline.args(["-c", "set -o pipefail; \"$0\" | \"$1\""]);
     pipeline.args([repository.path("replay"), repository.path("to-trace")]);
     let ended = fed(pipeline, INPUT);
     assert_eq!((ended.out.as_slice(), ended.status), (INPUT, 0));
-    let (one, other) = ("check replay\nbuilt\n", "check to_trace\nbuilt\n");
+    let (one, other) = ("run replay\nbuilt\n", "run to_trace\nbuilt\n");
     let calls = repository.calls();
     assert!(calls == [one, other].concat() || calls == [other, one].concat());
 }

@@ -313,7 +313,7 @@ fn a_file_that_cannot_be_read_is_no_empty_trace() {
 #[test]
 #[ignore = "runs the built programs: .ci/run calls it behind rt ci"]
 fn behind_a_failed_read_nothing_is_answered() {
-    let program = Path::new(ROOT).join("target/bin/why_program");
+    let program = Path::new(ROOT).join("crates/why_program/out/why_program");
     for bytes in [0, 7, 19, 20, 47, 65_520, 65_540, MOST_BYTES - 1, MOST_BYTES] {
         let trace = &Form::Trace.long()[..bytes];
         let records = bytes / RECORD_LENGTH;
