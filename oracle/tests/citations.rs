@@ -2,10 +2,11 @@
 //!
 //! A citation is a code span of one of these forms.
 //!
-//! - `File · name`: declared in that file of crate `model`; `crate/File · name`: of that crate.
+//! - `File · name`: declared in that file of crate `model`; `crate/File · name`: of that crate. It
+//!   stands in the crate's `specs` or, a law of `model` or `reordering`, in its `proofs`.
 //! - `crate::item`, `crate::Type::member`: declared in the code of that crate.
-//! - `crate/label`: a must-fail edit of that crate; `crate/File`: a file of its `specs`; any other
-//!   path: a file or folder of the repository.
+//! - `crate/label`: a must-fail edit of that crate; `crate/File`: a file of its `specs` or its
+//!   `proofs`; any other path: a file or folder of the repository.
 //! - `name`: in a table it belongs to the file, type or crate cited before it in its cell, in text
 //!   to the one that it is listed behind. Where nothing is cited before it, it is declared
 //!   somewhere, or is a crate or a file.
@@ -35,11 +36,13 @@ const PLACEHOLDERS: [&str; 6] = [
 ];
 
 /// Words of the languages, the tools and the replay's text.
-const WORDS: [&str; 9] = [
+const WORDS: [&str; 11] = [
     "end",
     "ensures",
     "log",
     "match",
+    "port.py",
+    "rattle-kit-13f",
     "rattle-kit-5",
     "requires",
     "rt",
@@ -61,7 +64,7 @@ type Names = BTreeSet<String>;
 struct Repository {
     root: PathBuf,
     crates: Names,
-    /// By `crate/File`: what is declared there.
+    /// By `crate/File`, in `specs` or in `proofs`: what is declared there.
     specs: BTreeMap<String, Names>,
     /// By crate: `item` and `Type::member`.
     code: BTreeMap<String, Names>,
@@ -83,10 +86,12 @@ impl Repository {
 
     fn add_crate(&mut self, folder: &Path) {
         let name = stem(folder);
-        for file in entries(&folder.join("specs")) {
-            let declared = spec_names(&text(&file));
-            self.specs
-                .insert(format!("{name}/{}", stem(&file)), declared);
+        let files = ["specs", "proofs"].map(|part| entries(&folder.join(part)));
+        // the folders in `proofs` are of functions
+        for file in files.concat().iter().filter(|path| path.is_file()) {
+            let declared = spec_names(&text(file));
+            let of_file = self.specs.entry(format!("{name}/{}", stem(file)));
+            of_file.or_default().extend(declared);
         }
         for file in entries(&folder.join("src")) {
             let items = self.code.entry(name.clone()).or_default();
@@ -255,7 +260,7 @@ fn is_part_of_name(c: char) -> bool {
 enum Place {
     Anywhere,
     Crates,
-    /// The `specs` of this crate.
+    /// The `specs` and `proofs` of this crate.
     Files(String),
     Spec(String),
     Code {
@@ -289,7 +294,7 @@ impl Place {
         match self {
             Place::Anywhere => "nothing of this name".to_string(),
             Place::Crates => "no such crate".to_string(),
-            Place::Files(of) => format!("no such file in crates/{of}/specs"),
+            Place::Files(of) => format!("no such file in specs or proofs of crates/{of}"),
             Place::Spec(file) => format!("not declared in {file}"),
             Place::Code { of, owner: None } => format!("not declared in crate {of}"),
             Place::Code {
@@ -545,8 +550,8 @@ fn small() -> Repository {
         crates: names(&["model", "card"]),
         specs: BTreeMap::from([
             spec("model/State", &["World", "sound", "fifos"]),
-            spec("model/Laws", &["stays-sound"]),
-            spec("card/Bridge", &["cardAs"]),
+            spec("model/Laws", &["stays_sound"]),
+            spec("card/Bridge", &["card_as"]),
         ]),
         code: BTreeMap::from([spec("card", &["Card", "Card::raise", "fresh", "LIMIT"])]),
         edits: names(&["card/wrong"]),
@@ -569,15 +574,15 @@ fn assert_all_there(document: &str) {
 fn forms() {
     let spec = Form::Spec {
         file: "card/Bridge",
-        name: "cardAs",
+        name: "card_as",
     };
-    assert_eq!(form("card/Bridge · cardAs"), spec);
+    assert_eq!(form("card/Bridge · card_as"), spec);
     assert_eq!(
         form("card::Card::raise"),
         Form::Code(vec!["card", "Card", "raise"])
     );
     assert_eq!(form("./replay/x"), Form::Path("replay/x"));
-    assert_eq!(form("stays-sound"), Form::Name("stays-sound"));
+    assert_eq!(form("stays_sound"), Form::Name("stays_sound"));
     for other in [
         "10 0 0",
         "17..=255",
@@ -593,9 +598,9 @@ fn forms() {
 
 #[test]
 fn there() {
-    assert_all_there("`State · World`, `sound`; `card/Bridge · cardAs`, `card::fresh`");
+    assert_all_there("`State · World`, `sound`; `card/Bridge · card_as`, `card::fresh`");
     assert_all_there("`card::Card`, `card::Card::raise`, `card::LIMIT`, `card/wrong`");
-    assert_all_there("crate `card`, `oracle/`, `card/Bridge`, `stays-sound`, `State`");
+    assert_all_there("crate `card`, `oracle/`, `card/Bridge`, `stays_sound`, `State`");
     assert_all_there("| a | `State · World` (`fifos`): by `sound` alone |");
     assert_all_there("| a | `card::Card::raise` and later `fresh` |");
 }
@@ -603,12 +608,12 @@ fn there() {
 #[test]
 fn not_there() {
     for (cited, why) in [
-        ("`State · stays-sound`", "not declared in model/State"),
+        ("`State · stays_sound`", "not declared in model/State"),
         ("`Nowhere · sound`", "not declared in model/Nowhere"),
         ("`card::Card::lower`", "not declared in crate card"),
         ("`other::fresh`", "not declared in crate other"),
         ("`card/right`", "no such edit, file or folder"),
-        ("`lost-sound`", "nothing of this name"),
+        ("`lost_sound`", "nothing of this name"),
         ("crate `sound`", "no such crate"),
         ("docs/NOWHERE.md", "no such document"),
     ] {
@@ -620,17 +625,17 @@ fn not_there() {
 #[test]
 fn names_alone() {
     // in a cell they belong to what is cited before them
-    let cell = "| a |\n|---|\n| `State · World`, not by `stays-sound` |";
+    let cell = "| a |\n|---|\n| `State · World`, not by `stays_sound` |";
     assert_eq!(
         missing_in(cell),
-        ["3 `stays-sound`: not declared in model/State"]
+        ["3 `stays_sound`: not declared in model/State"]
     );
     // in text only where they are listed behind it
-    assert_all_there("`State · World`, not by `stays-sound`");
-    let listed = "`State · World` and `stays-sound`";
+    assert_all_there("`State · World`, not by `stays_sound`");
+    let listed = "`State · World` and `stays_sound`";
     assert_eq!(
         missing_in(listed),
-        ["1 `stays-sound`: not declared in model/State"]
+        ["1 `stays_sound`: not declared in model/State"]
     );
     let programs = "programs `card`, `sound`";
     assert_eq!(missing_in(programs), ["1 `sound`: no such crate"]);
@@ -643,7 +648,7 @@ fn columns() {
     let table = "| File | Section |\n|---|---|\n| `State`, `Bridge` | |";
     assert_eq!(
         missing_in(table),
-        ["3 `Bridge`: no such file in crates/model/specs"]
+        ["3 `Bridge`: no such file in specs or proofs of crates/model"]
     );
     assert_eq!(cells(r#"| "1 \| 2" | `a` |"#), [r#""1 \| 2""#, "`a`"]);
 }
@@ -664,16 +669,16 @@ fn declarations_of_specs() {
                 pub data Place (T : Type 0) : Type 0 where\n  \
                 here there : T → Place\n\
                 record Pair : Type 0 where\n  \
-                pub ofHost : Bool\n\
-                pub stays-sound : (s : State) → Type 0\n";
+                pub of_host : Bool\n\
+                pub stays_sound : (s : State) → Type 0\n";
     let declared = [
         "untouched",
         "Place",
         "here",
         "there",
         "Pair",
-        "ofHost",
-        "stays-sound",
+        "of_host",
+        "stays_sound",
     ];
     assert_eq!(spec_names(text), names(&declared));
 }
