@@ -1,5 +1,6 @@
 // Document 01, "Trace and replay": where a replay stands, where it starts, and a record of it answered.
 #![tactic(auto)]
+
 ghost use Rattle.std.specs.Prelude.{◌≡◌, List, ℕ, ◌+◌, ◌<◌, ◌^◌};
 ghost use Rattle.model.specs.Replay.{stop, replay_start};
 ghost use Rattle.access.specs.Bridge.{access_as};
