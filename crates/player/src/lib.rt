@@ -1,5 +1,6 @@
 // The replay: the records of a chunk, answered by the card and written as text.
 #![tactic(auto)]
+
 ghost use Rattle.std.specs.Prelude.{◌≡◌, ◌+◌, ◌*◌, ◌<◌, ◌≤◌, ◌^◌, length};
 ghost use Rattle.model.specs.Trace.{reading_number};
 ghost use Rattle.model.specs.Text.{line_text};
