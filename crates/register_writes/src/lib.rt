@@ -1,5 +1,6 @@
 // Document 02, L4: a write of a dword, by what its offset names. Where it is an access of document 01, that access's function does it.
 #![tactic(auto)]
+
 ghost use Rattle.std.specs.Prelude.{◌≡◌, List, ℕ, length};
 ghost use Rattle.model.specs.Checks.{shared_length};
 ghost use Rattle.model.specs.Sides.{side_of};
