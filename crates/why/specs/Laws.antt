@@ -7,17 +7,17 @@ use Rattle.std.proofs.lemmas.List.{length-map}
 use Rattle.model.specs.Choice.{if◌then◌else◌}
 use Rattle.model.specs.Checks.{Check, ◌for◌, refusal, above}
 use Rattle.model.specs.Sides.{Side, host, local, side_of}
-use Rattle.model.specs.Events.{inbound_post, outbound_post, bit, mask_of, insert, stored_events, stored_mask, enable_mask}
-use Rattle.model.specs.Fifos.{entries_of, fifos_sound}
+use Rattle.model.specs.Events.{inbound_post, outbound_post, bit, insert, stored_mask, enable_mask}
+use Rattle.model.specs.Fifos.{entries_of}
 use Rattle.model.specs.Interrupts.{register}
 use Rattle.model.specs.Interrupts as interrupts
 use Rattle.model.specs.State.{State, World, sound, fresh_card}
 use Rattle.model.specs.Accesses as words
 use Rattle.model.specs.Accesses.{fit, access}
 use Rattle.model.specs.Bench.{bench}
-use Rattle.model.specs.Trace.{Reading, recorded, refused, read_record, access_at}
+use Rattle.model.specs.Trace.{recorded, refused, read_record, access_at}
 use Rattle.model.proofs.TraceLaws.{recorded_is}
-use Rattle.model.specs.Replay.{Standing, moved_on, answered, logged, replay, replay_start}
+use Rattle.model.specs.Replay.{Standing, logged, replay, replay_start}
 use Rattle.model.proofs.ReplayLaws.{replay_stopped, replay_none, replay_more}
 use Rattle.model.proofs.TestLaws.{and_left, or_left, or_right, if_case}
 use Rattle.model.proofs.EventLaws.{no_bit, bit_insert}
@@ -25,7 +25,7 @@ use Rattle.model.proofs.Soundness.{sound_parts_lem, fit_parts, fifo_sound_lem, s
 use Rattle.model.specs.Why.{Reason, never, noted_all, changes_by, history, accesses_from, accesses_in, follows, reserved, places, because, why}
 use Rattle.model.specs.Why as model
 use Rattle.model.specs.Why.{same}
-use Rattle.model.proofs.ReasonLaws.{is_held, Stored, Says, stored_step, Live, Tells, live_step}
+use Rattle.model.proofs.ReasonLaws.{is_held, Stored, stored_step, Live, live_step}
 use Rattle.model.specs.Why.{stored_bit}
 use Rattle.model.specs.Why.{Moved}
 use Rattle.model.specs.Why.{held_by}

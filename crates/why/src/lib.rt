@@ -1,6 +1,7 @@
 // Document 02, L7: why an event bit reads as it does at the end of a trace. The replay's own function does each record, and what is known of the bit
 // follows from what the card shows behind it.
 #![tactic(auto)]
+
 ghost use Rattle.std.specs.Prelude.{◌≡◌, true, false, [], ◌∷◌, ◌<◌, ◌≤◌, length};
 ghost use Rattle.model.specs.Checks.{◌for◌, refusal, above};
 ghost use Rattle.model.specs.Sides.{side_of};
