@@ -1,5 +1,6 @@
 // Document 02, L7: what the program answers a question with, stored in a lent buffer: the text of an answer, or the usage line.
 #![tactic(auto)]
+
 ghost use Rattle.std.specs.Prelude.{◌≡◌, List, ◌++◌, ℕ, ◌+◌, ◌*◌, ◌≤◌, length};
 ghost use Rattle.model.specs.WhyText.{by_record, holding_text, holding_lines, why_text, held_text, answer_text, why_output};
 ghost use Rattle.decimal.specs.Bridge.{Written, ReadWhole};
