@@ -1,6 +1,6 @@
 -- How a row settled gives the promise of a register access: one law for a direction, and one for each refusal in front of it.
 use Rattle.std.specs.Prelude.{◌≡◌, refl, true, false, List, [], ◌∷◌, ℕ, zero, suc}
-use Rattle.std.proofs.Common.{ap, sym, ◌∙◌, arith}
+use Rattle.std.proofs.Common.{ap, sym, subst, ◌∙◌, arith}
 use Rattle.model.specs.Checks.{◌for◌, refusal, above}
 use Rattle.model.specs.Sides.{Side, side_of}
 use Rattle.model.specs.State.{World}
@@ -47,7 +47,10 @@ module _ (card : Card) (side offset direction dword : ℕ) (m w : List ℕ) (r :
         -- past the checks in front, the row of the resource and the direction
         row_is : register_access (world_as card m w) (asked side offset direction dword) ≡ settled (refusal (register_row x direction (world_as card m w) (side_of side) dword).checks) (register_row x direction (world_as card m w) (side_of side) dword).effect (world_as card m w)
         unfolding register_access
-        row_is = rw (h, k, ← at, l)
+        row_is =
+            let modelled : is_modelled (resource_at offset) ≡ true = sym (ap is_modelled at) ∙ l in
+            subst (λ y. register_access (world_as card m w) (asked side offset direction dword) ≡ settled (refusal (register_row y direction (world_as card m w) (side_of side) dword).checks) (register_row y direction (world_as card m w) (side_of side) dword).effect (world_as card m w))
+            (sym at) (rw (h, k, modelled))
 
         row_arm : (row : Row) {m' w' : List ℕ} → register_row x direction (world_as card m w) (side_of side) dword ≡ row → Settles row card m w r m' w' → RegisterAccessed card (asked side offset direction dword) m w r m' w'
         row_arm row e s = (s.told ∙ ap (λ (row : Row). settled (refusal row.checks) row.effect (world_as card m w)) (sym e) ∙ sym row_is, (s.kept, s.said))

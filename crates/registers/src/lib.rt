@@ -1,5 +1,6 @@
 // Document 02, L4: reads and writes of dwords at offsets in the 32 KB map.
 #![tactic(auto)]
+
 ghost use Rattle.std.specs.Prelude.{◌≡◌};
 ghost use Rattle.model.specs.Registers.{register_access};
 ghost use Rattle.access.specs.declared.Answer.TheVariants.{Refused};
