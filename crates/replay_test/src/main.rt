@@ -1,5 +1,6 @@
 // Replays each trace of standard input by itself, from a fresh card and zeroed memories. The traces stand one behind the other, each behind its length in four bytes, least byte first, as the independent program wrote them.
 #![tactic(auto)]
+
 ghost use Rattle.std.specs.Prelude.{◌≡◌, ◌+◌, ◌<◌, ◌≤◌, ◌^◌, length};
 
 use standing::Standing;
