@@ -1,5 +1,6 @@
 // Document 02, L10: local bursts of shared memory at bus widths of 8, 16 and 32 bits, modes 0, 1 and 3.
 #![tactic(auto)]
+
 ghost use Rattle.std.specs.Prelude.{◌≡◌, []};
 ghost use Rattle.model.specs.Bursts.{reads, writes, burst};
 ghost use Rattle.card.specs.Bridge.{world_as};
