@@ -2,6 +2,7 @@
 // memories.
 // What stands in both files is said where they are made, in oracle/src/programs/device/mod.rs.
 #![tactic(auto)]
+
 ghost use Rattle.std.specs.Prelude.{◌≡◌, length};
 
 use access::Access;
