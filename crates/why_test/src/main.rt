@@ -2,6 +2,7 @@
 // many bytes the trace has and how many questions are asked of it, each four bytes, least byte first; the trace; and the questions, each the lengths of
 // two texts and the texts, a side and a position. What the program would write is written, and behind an answer its places, entries and records.
 #![tactic(auto)]
+
 ghost use Rattle.std.specs.Prelude.{◌≡◌, ◌≤◌, length};
 
 use testing::show;
