@@ -1,6 +1,7 @@
 // The burst of a case of the test programs: its phases read, the burst done, and its answer written out.
 // What stands where is said in oracle/src/programs/bursts/mod.rs.
 #![tactic(auto)]
+
 ghost use Rattle.std.specs.Prelude.{◌≡◌, length};
 
 use card::Card;
