@@ -1,6 +1,7 @@
 // Runs bursts and accesses on the cases of standard input, and writes the answers, the lists, the record and digests of both memories.
 // What stands in both files is said where they are made, in oracle/src/programs/bursts/mod.rs.
 #![tactic(auto)]
+
 ghost use Rattle.std.specs.Prelude.{◌≡◌, length};
 
 use access::Access;
