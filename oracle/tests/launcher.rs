@@ -4,10 +4,10 @@
 mod support;
 
 use std::fs::{self, File};
-use std::io::{BufRead, BufReader, Read, Write};
+use std::io::{self, BufRead, BufReader, Read, Write};
 use std::os::unix::fs::{symlink, PermissionsExt};
 use std::path::{Path, PathBuf};
-use std::process::{Child, ChildStderr, Command};
+use std::process::{Child, ChildStderr, Command, Stdio};
 use std::sync::{Mutex, MutexGuard, PoisonError};
 use std::time::{Duration, SystemTime};
 
@@ -420,6 +420,29 @@ fn what_was_built_before_is_not_run_where_a_build_fails() {
     for _ in 0..2 {
         repository.start().is(b"", &format!("{BUILDING}{told}"), 1);
     }
+}
+
+/// What stands in for the program ignores the signal, and says that it could not write.
+#[test]
+fn a_reader_that_goes_away_is_told_of_where_the_signal_was_ignored() {
+    let cat = "trap '' PIPE\\ncat 2>&- || echo writing failed after 0 records >&2";
+    let repository = Repository::with_rt(&RT.replace("exec cat", cat));
+    is_built_and_run(&repository.start());
+    let failed = "replay: writing failed after 0 records\n";
+    let unread = || -> Stdio { io::pipe().expect("a pipe").1.into() };
+    for (line, told, status) in [
+        ("exec \"$0\"", "", 141),
+        ("trap '' PIPE; exec \"$0\"", failed, 1),
+    ] {
+        let mut shell = repository.command("bash");
+        shell.args(["-c", line]).arg(repository.path("replay"));
+        shell.stdout(unread());
+        fed(shell, INPUT).is(b"", told, status);
+    }
+    let full = File::options().write(true).open("/dev/full");
+    let mut replay = repository.replay();
+    replay.stdout(full.expect("a device that is always full"));
+    fed(replay, INPUT).is(b"", failed, 1);
 }
 
 #[test]
