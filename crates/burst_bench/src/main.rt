@@ -2,6 +2,7 @@
 // Reads cases of two numbers of four bytes, least byte first: 0 for bursts or 1 for single accesses, and the rounds. Writes a sum for each, which
 // is that of oracle/src/bursts/workload.rs.
 #![tactic(auto)]
+
 ghost use Rattle.std.specs.Prelude.{◌≡◌, length};
 
 use access::{Access, Answer};
