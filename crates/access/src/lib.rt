@@ -1,8 +1,7 @@
 // The words of an access: what is asked, what is answered, the numbers of the refusals, and the checks that several kinds share.
 #![tactic(auto)]
 
-ghost use Rattle.std.specs.Prelude.{◌≡◌, [], ◌∷◌, ◌<◌};
-ghost use Rattle.model.specs.Choice.{if◌then◌else◌};
+ghost use Rattle.std.specs.Prelude.{◌≡◌, [], ◌∷◌, ◌<◌, if◌then◌else◌};
 ghost use Rattle.model.specs.Checks.{refusal, ◌for◌, misplaced, nonzero};
 ghost use Rattle.model.specs.Sides.{side_of, other, not_by};
 ghost use Rattle.access.specs.Bridge.{access_as};

@@ -1,8 +1,7 @@
 // Document 01, "FIFOs and flags": the four pairs of arbitration flags by value.
 #![tactic(auto)]
 
-ghost use Rattle.std.specs.Prelude.{◌≡◌, map, ◌≤◌, ◌<◌};
-ghost use Rattle.model.specs.Choice.{if◌then◌else◌};
+ghost use Rattle.std.specs.Prelude.{◌≡◌, map, ◌≤◌, ◌<◌, if◌then◌else◌};
 ghost use Rattle.model.specs.Sides.{side_of, other};
 ghost use Rattle.model.specs.Arbitration.{pair_sound, arbitration_sound, fresh_arbitration, pair_of, flag, with_flag, with_flag_of, pair_value, flags_value};
 ghost use Rattle.arbitration.specs.Bridge.{pair_as, arbitration_as};

@@ -1,7 +1,6 @@
 -- Laws of ARBUTIL in the card: a pair's access by the bit that is written, and four of them as one write.
-use Rattle.std.specs.Prelude.{◌≡◌, refl, Bool, true, false, not, List, [], ◌∷◌, ℕ, ◌+◌, ◌*◌, ◌/◌, ◌%◌, ◌^◌, ◌≤◌, ◌<◌, eqb}
+use Rattle.std.specs.Prelude.{◌≡◌, refl, Bool, true, false, not, List, [], ◌∷◌, ℕ, ◌+◌, ◌*◌, ◌/◌, ◌%◌, ◌^◌, ◌≤◌, ◌<◌, eqb, if◌then◌else◌}
 use Rattle.std.proofs.Common.{ap, ap₂, sym, subst, ◌∙◌, arith, eq-eqb, ne_eqb, le-ltb}
-use Rattle.model.specs.Choice.{if◌then◌else◌}
 use Rattle.model.specs.Sides.{Side, host, local, other}
 use Rattle.model.specs.Events.{bit}
 use Rattle.model.specs.Arbitration.{pair_of, flag, flags_value, flag_bit}

@@ -1,8 +1,7 @@
 // Document 02, L4: ARBUTIL, all arbitration flags in one register. A write is a claim or a release of each pair, one after another.
 #![tactic(auto)]
 
-ghost use Rattle.std.specs.Prelude.{◌≡◌, not, List, ℕ, ◌*◌, ◌^◌, ◌≤◌, ◌<◌, eqb};
-ghost use Rattle.model.specs.Choice.{if◌then◌else◌};
+ghost use Rattle.std.specs.Prelude.{◌≡◌, not, List, ℕ, ◌*◌, ◌^◌, ◌≤◌, ◌<◌, eqb, if◌then◌else◌};
 ghost use Rattle.model.specs.Sides.{side_of};
 ghost use Rattle.model.specs.Arbitration.{flag_bit};
 ghost use Rattle.model.specs.RegisterMap.{arbutil};

@@ -1,6 +1,5 @@
 -- What contracts of bays cite: the label for a byte that may be a bay index, and what a label's bay is found to be, in the model's words.
-use Rattle.std.specs.Prelude.{ℕ, leb}
-use Rattle.model.specs.Choice.{if◌then◌else◌}
+use Rattle.std.specs.Prelude.{ℕ, leb, if◌then◌else◌}
 use Rattle.model.specs.Bays as model
 use Rattle.model.specs.Bays.{bay_label}
 use Rattle.bays.specs.declared.Found.{Found}

@@ -1,6 +1,5 @@
 -- The part of a bay's label in the label of a mailbox read.
-use Rattle.std.specs.Prelude.{◌≡◌, refl, Bool, true, false, ◌&&◌, ◌%◌, leb}
-use Rattle.model.specs.Choice.{if◌then◌else◌}
+use Rattle.std.specs.Prelude.{◌≡◌, refl, Bool, true, false, ◌&&◌, ◌%◌, leb, if◌then◌else◌}
 use Rattle.model.specs.Sides.{host}
 use Rattle.model.specs.Bays.{bay_label}
 use Rattle.model.specs.Mailboxes.{Mailboxes, label_for}

@@ -1,8 +1,7 @@
 -- A burst from the number that its checks give: refused with it, or past it what the loops ask for, and then what they leave.
-use Rattle.std.specs.Prelude.{◌≡◌, refl, Bool, true, false, not, ◌||◌, List, [], ℕ, zero, suc, ◌≤◌, eqb, ltb, length}
+use Rattle.std.specs.Prelude.{◌≡◌, refl, Bool, true, false, not, ◌||◌, List, [], ℕ, zero, suc, ◌≤◌, eqb, ltb, length, if◌then◌else◌}
 use Rattle.std.proofs.Common.{sym, ◌∙◌, arith, lit<, ltb-false}
 use Rattle.std.proofs.lemmas.Bool.{not-false}
-use Rattle.model.specs.Choice.{if◌then◌else◌}
 use Rattle.model.specs.Checks.{refusal, above, shared_length}
 use Rattle.model.specs.Accesses.{fit}
 use Rattle.model.specs.Bursts.{Way, Burst, short, list_after}

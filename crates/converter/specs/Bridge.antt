@@ -1,7 +1,6 @@
 -- What the two programs promise between their calls of the C library: which output stands ready to be written, for the bytes that the buffers hold;
 -- that there are chunks whose conversion leads to where it ended; and what standard error gets.
-use Rattle.std.specs.Prelude.{◌≡◌, true, false, not, List, [], ◌++◌, ℕ, ◌+◌, ◌≤◌, length, take, drop}
-use Rattle.model.specs.Choice.{if◌then◌else◌}
+use Rattle.std.specs.Prelude.{◌≡◌, true, false, not, List, [], ◌++◌, ℕ, ◌+◌, ◌≤◌, length, take, drop, if◌then◌else◌}
 use Rattle.model.specs.Text.{refused_line_text}
 use Rattle.model.specs.Convert as model
 use Rattle.model.specs.Convert.{Place, convert_on, beginning, convert_chunks}

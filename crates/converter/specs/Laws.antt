@@ -1,13 +1,12 @@
 -- A chunk is turned by what its conversion promises; one chunk more behind others; and the output of a conversion that did not break off is that of the
 -- whole input.
-use Rattle.std.specs.Prelude.{◌≡◌, ◌⊎◌, Bool, false, ◌||◌, length, take, eqb}
+use Rattle.std.specs.Prelude.{◌≡◌, ◌⊎◌, Bool, false, ◌||◌, length, take, eqb, if◌then◌else◌}
 use Rattle.std.proofs.Math.Path.{refl, ap}
 use Rattle.std.proofs.Common.{sym, ◌∙◌, inl, inr, zero-add, arith, length-append, length-take-le, lit≤, ne_eqb}
 use Rattle.std.proofs.Math.Bool.{true}
 use mathlib.Core.List.{List, [], ◌∷◌, ◌++◌, flatten, append-nil}
 use Prim.Native.Nat.{ℕ, ◌+◌, ◌-◌, ◌<◌, ◌≤◌}
 use Rattle.std.proofs.Math.Nat.{sub-zero}
-use Rattle.model.specs.Choice.{if◌then◌else◌}
 use Rattle.model.proofs.TestLaws.{or_right, no_both, if_case}
 use Rattle.model.specs.Convert as model
 use Rattle.model.specs.Convert.{Place, convert, convert_on, beginning, convert_chunks}

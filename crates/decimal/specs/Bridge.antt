@@ -1,7 +1,6 @@
 -- What contracts of decimal cite: text stored in a lent buffer, the digit at the start of a text, and what is read where a number should stand.
-use Rattle.std.specs.Prelude.{◌≡◌, true, false, List, [], ◌∷◌, ℕ, ◌+◌, ◌-◌, ◌≤◌, length, drop, ltb}
+use Rattle.std.specs.Prelude.{◌≡◌, true, false, List, [], ◌∷◌, ℕ, ◌+◌, ◌-◌, ◌≤◌, length, drop, ltb, if◌then◌else◌}
 use Rattle.std.proofs.lemmas.List.Edits.{sets}
-use Rattle.model.specs.Choice.{if◌then◌else◌}
 use Rattle.model.specs.Text as model
 use Rattle.model.specs.Text.{is_digit, starts_with, field_text, FieldReading, read_field, read_decimal}
 use Rattle.decimal.specs.declared.FieldRead.{FieldRead}

@@ -7,6 +7,9 @@ ghost use Rattle.model.specs.Text.{decimal_text, field_text, is_digit};
 ghost use Rattle.model.specs.Text.{two_digits};
 ghost use Rattle.decimal.specs.Bridge.{Written, no_field, digit_in, closed_at, ReadAt, capped, ReadWhole};
 
+// The least number that has two digits.
+const TWO_DIGITS_FROM: u64 = 10;
+
 fn write_byte(out: &mut [u8], at: usize, b: u8) -> usize
     requires { at < length out.old }
     ensures { Written out.old at (b ∷ []) result out.new }
@@ -48,7 +51,11 @@ fn digits(n: u64) -> usize
         left /= 100;
         count += 2;
     }
-    if left >= 10 { count + 2 } else { count + 1 }
+    if left >= TWO_DIGITS_FROM {
+        count + 2
+    } else {
+        count + 1
+    }
 }
 
 // From the back, two digits a turn: half the divisions of one digit a turn, and no call for each of them.
@@ -64,7 +71,7 @@ fn write_decimal(out: &mut [u8], at: usize, n: u64) -> usize
         write_two_digits(out, p, left % 100);
         left /= 100;
     }
-    if left >= 10 {
+    if left >= TWO_DIGITS_FROM {
         write_two_digits(out, at, left);
         return end;
     }

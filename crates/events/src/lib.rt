@@ -1,9 +1,8 @@
 // Document 01, "Interrupt registers": sets of events, and a register by value.
 #![tactic(auto)]
 
-ghost use Rattle.std.specs.Prelude.{◌≡◌, not, ◌/◌, ◌<◌, eqb};
+ghost use Rattle.std.specs.Prelude.{◌≡◌, not, ◌/◌, ◌<◌, eqb, if◌then◌else◌};
 ghost use Rattle.std.specs.Int.Bits.{bit_or};
-ghost use Rattle.model.specs.Choice.{if◌then◌else◌};
 ghost use Rattle.model.specs.Sides.{side_of};
 ghost use Rattle.model.specs.Events.{bit, common, without, within, stored_mask, enable_mask};
 ghost use Rattle.model.specs.Interrupts.{fresh_register, register_sound, cleared_in, enables_in, register_value, active};

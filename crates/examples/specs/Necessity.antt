@@ -2,10 +2,10 @@
 -- A done reset is left out: it cannot stand between a start and a step of the same transfer. Of L4's, "any access to a DMA register counts as a
 -- start", a write of DMACTL is needed. A read of a DMA register, and a write of DMALBASE, DMAHBASE or DMASIZE, could stand there: they see and
 -- change nothing of the transfer that runs. They are in the premise because the user counts them.
-use Rattle.std.specs.Prelude.{◌≡◌, refl, Bool, true, false, not, ◌&&◌, ◌||◌, List, [], ◌∷◌, map, ℕ, replicate, get_or, eqb}
+use Rattle.std.specs.Prelude.{◌≡◌, refl, Bool, true, false, not, ◌&&◌, ◌||◌, List, [], ◌∷◌, map, ℕ, replicate, get_or, eqb, if◌then◌else◌}
 use Rattle.std.proofs.Common.{ap, ◌∙◌, eq-eqb}
 use Rattle.std.proofs.Math.Path.{sym}
-use Rattle.model.specs.Choice.{if◌then◌else◌, every}
+use Rattle.model.specs.Choice.{every}
 use Rattle.model.specs.Lanes.{read_dword, write_dword}
 use Rattle.model.specs.Transfer.{Request}
 use Rattle.model.specs.State.{World, sound, fresh_card}

@@ -1,6 +1,5 @@
 -- The entries that the code's FIFOs hold, and what a put and a take make of them.
-use Rattle.std.specs.Prelude.{Bool, true, false, List, [], ◌∷◌, ◌++◌, map, ℕ, ◌+◌, length, take, replicate, ltb}
-use Rattle.model.specs.Choice.{if◌then◌else◌}
+use Rattle.std.specs.Prelude.{Bool, true, false, List, [], ◌∷◌, ◌++◌, map, ℕ, ◌+◌, length, take, replicate, ltb, if◌then◌else◌}
 use Rattle.model.specs.Fifos as model
 use Rattle.model.specs.Fifos.{entries_of, pushed_on, popped_from}
 use Rattle.fifos.specs.declared.Fifo.{Fifo}

@@ -1,6 +1,5 @@
 -- What contracts of history cite: the code's answer as the model's, what a record makes of a case and of the puts, and what a history knows.
-use Rattle.std.specs.Prelude.{◌≡◌, ◌⊎◌, Bool, true, false, List, [], ◌∷◌, ◌++◌, map, ℕ, zero, suc, length, get_or, drop, eqb, ltb}
-use Rattle.model.specs.Choice.{if◌then◌else◌}
+use Rattle.std.specs.Prelude.{◌≡◌, ◌⊎◌, Bool, true, false, List, [], ◌∷◌, ◌++◌, map, ℕ, zero, suc, length, get_or, drop, eqb, ltb, if◌then◌else◌}
 use Rattle.model.specs.Why.{Holding, Reason, cleared_by, set_by, Answer, refused, because, Told}
 use Rattle.model.specs.Why as model
 use Rattle.model.specs.Why.{settled_by}

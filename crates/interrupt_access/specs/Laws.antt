@@ -1,10 +1,9 @@
 -- Laws of the interrupt registers: the live bits, a register written or raised in, and in a sound record a register as read fits 32 bits.
-use Rattle.std.specs.Prelude.{◌≡◌, refl, Bool, true, not, List, [], ◌∷◌, ℕ, ◌<◌, length, eqb}
+use Rattle.std.specs.Prelude.{◌≡◌, refl, Bool, true, not, List, [], ◌∷◌, ℕ, ◌<◌, length, eqb, if◌then◌else◌}
 use Rattle.std.proofs.Common.{ap, ap₂, sym, ◌∙◌, arith, eqb-true}
 use Rattle.std.specs.Int.Bits.{bit_or}
 use Rattle.std.proofs.lemmas.Nat.{and_le_r, or_lt}
 use Rattle.std.proofs.Math.Dec.{eqb-suc-zero}
-use Rattle.model.specs.Choice.{if◌then◌else◌}
 use Rattle.model.specs.Sides.{Side, host, local}
 use Rattle.model.specs.Events.{Event, inbound_post, outbound_post, mask, common, within, stored_mask, enable_mask}
 use Rattle.model.specs.Fifos.{Fifos, entries_of}

@@ -1,8 +1,7 @@
 // Document 01, "Interrupt registers": interrupt read, interrupt write, line and external pin, kinds 11, 12, 13 and 16, each with its own checks first.
 #![tactic(auto)]
 
-ghost use Rattle.std.specs.Prelude.{◌≡◌, true, List, [], ◌∷◌, ℕ};
-ghost use Rattle.model.specs.Choice.{if◌then◌else◌};
+ghost use Rattle.std.specs.Prelude.{◌≡◌, true, List, [], ◌∷◌, ℕ, if◌then◌else◌};
 ghost use Rattle.model.specs.Checks.{refusal, ◌for◌, nonzero};
 ghost use Rattle.model.specs.Sides.{host, side_of, not_by, local};
 ghost use Rattle.model.specs.Events.{external};

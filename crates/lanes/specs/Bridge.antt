@@ -1,6 +1,5 @@
 -- What contracts of lanes cite: bytes merged under a lane mask.
-use Rattle.std.specs.Prelude.{List, [], ◌∷◌, ℕ, ◌/◌}
-use Rattle.model.specs.Choice.{if◌then◌else◌}
+use Rattle.std.specs.Prelude.{List, [], ◌∷◌, ℕ, ◌/◌, if◌then◌else◌}
 use Rattle.model.specs.Lanes.{enabled}
 
 -- lane by lane, the new byte where the lane is enabled, else the old one

@@ -1,9 +1,8 @@
 -- Reads and writes of a memory by lanes are merges, shown one lane at a time.
-use Rattle.std.specs.Prelude.{◌≡◌, refl, Bool, true, false, List, [], ◌∷◌, ℕ, zero, suc, ◌+◌, ◌/◌, ◌≤◌, get_or, set, length, replicate, take, drop}
+use Rattle.std.specs.Prelude.{◌≡◌, refl, Bool, true, false, List, [], ◌∷◌, ℕ, zero, suc, ◌+◌, ◌/◌, ◌≤◌, get_or, set, length, replicate, take, drop, if◌then◌else◌}
 use Rattle.std.proofs.Common.{ap, sym, ◌∙◌, add-one, arith, get_or-set_other, drop-cons, take_all}
 use Rattle.std.proofs.lemmas.List.{set-get_or}
 use Rattle.std.proofs.lemmas.List.Edits.{sets}
-use Rattle.model.specs.Choice.{if◌then◌else◌}
 use Rattle.model.specs.Lanes.{bytes_of, enabled, lane_values, byte_at, stores, write_dword}
 use Rattle.model.proofs.LaneLaws.{covers_from, values_same}
 use Rattle.lanes.specs.Bridge.{merge}

@@ -1,8 +1,7 @@
 // A dword as its four bytes, by value, merged under a lane mask; a dword read and written in a lent memory.
 #![tactic(auto)]
 
-ghost use Rattle.std.specs.Prelude.{◌≡◌, ◌+◌, ◌*◌, ◌<◌, ◌≤◌, length};
-ghost use Rattle.model.specs.Choice.{if◌then◌else◌};
+ghost use Rattle.std.specs.Prelude.{◌≡◌, ◌+◌, ◌*◌, ◌<◌, ◌≤◌, length, if◌then◌else◌};
 ghost use Rattle.model.specs.Lanes.{dword_of, bytes_of, enabled, lane_values, byte_at, read_dword, write_dword};
 ghost use Rattle.lanes.specs.Bridge.{merge};
 

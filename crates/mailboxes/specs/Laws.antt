@@ -1,7 +1,6 @@
 -- The label of a host read, by the label that `bays` gives.
-use Rattle.std.specs.Prelude.{◌≡◌, true, ℕ, ◌%◌}
+use Rattle.std.specs.Prelude.{◌≡◌, true, ℕ, ◌%◌, if◌then◌else◌}
 use Rattle.std.proofs.Common.{ap, sym, ◌∙◌}
-use Rattle.model.specs.Choice.{if◌then◌else◌}
 use Rattle.model.specs.Sides.{Side, host}
 use Rattle.model.specs.Mailboxes.{Mailboxes, label_for}
 use Rattle.bays.specs.Bridge.{label_at}

@@ -1,8 +1,7 @@
 -- Index and label are two names of one place, there and back: by quotients and remainders of four and six.
-use Rattle.std.specs.Prelude.{◌≡◌, refl, Bool, true, false, ◌&&◌, [], ◌∷◌, map, ◌↔◌, ℕ, ◌+◌, ◌*◌, ◌/◌, ◌%◌, ◌≤◌, ◌<◌, leb}
+use Rattle.std.specs.Prelude.{◌≡◌, refl, Bool, true, false, ◌&&◌, [], ◌∷◌, map, ◌↔◌, ℕ, ◌+◌, ◌*◌, ◌/◌, ◌%◌, ◌≤◌, ◌<◌, leb, if◌then◌else◌}
 use Rattle.std.proofs.Common.{ap, ◌∙◌, arith, leb-true, le-leb}
 use Rattle.std.proofs.lemmas.Bool.{lt-leb}
-use Rattle.model.specs.Choice.{if◌then◌else◌}
 use Rattle.model.specs.Sides.{host}
 use Rattle.model.specs.Bays.{Bay, OnBackplane, index_of, label_of, bay_with_index, bay_with_label, bay_label, at, no_bay, bay_index}
 use Rattle.model.specs.Mailboxes.{label_for}

@@ -1,12 +1,12 @@
 -- Bursts, once over the modes: the single accesses of a burst that is not refused are all done, and how many there are is told by where its phases
 -- stand; each number is given exactly where its cause is the first that holds; a refusal changes nothing, and no burst changes the record.
 -- By induction over the phases, from the tables `advances` and `decode`.
-use Rattle.std.specs.Prelude.{◌≡◌, refl, ◌≢◌, ◌↔◌, Bool, true, false, not, ◌||◌, List, [], ◌∷◌, map, ℕ, zero, suc, ◌+◌, ◌*◌, ◌%◌, ◌≤◌, ◌<◌, length, get_or, eqb, ltb}
+use Rattle.std.specs.Prelude.{◌≡◌, refl, ◌≢◌, ◌↔◌, Bool, true, false, not, ◌||◌, List, [], ◌∷◌, map, ℕ, zero, suc, ◌+◌, ◌*◌, ◌%◌, ◌≤◌, ◌<◌, length, get_or, eqb, ltb, if◌then◌else◌}
 use Rattle.std.proofs.Common.{ap, sym, ◌∙◌, arith, lit<, le-ltb, lt-ltb, ltb-true, ltb-false}
 use Rattle.std.proofs.Math.Seq.{drop-nil}
 use Rattle.std.proofs.Math.Dec.{leb-suc-suc, eqb-suc-zero}
 use Rattle.std.proofs.lemmas.Bool.{not-true, not-false}
-use Rattle.model.specs.Choice.{if◌then◌else◌, every}
+use Rattle.model.specs.Choice.{every}
 use Rattle.model.specs.Checks.{Check, ◌for◌, refusal, First, above, misplaced, shared_length}
 use Rattle.model.specs.Sides.{local, side_of, not_by}
 use Rattle.model.specs.Events.{bit}

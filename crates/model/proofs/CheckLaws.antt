@@ -1,7 +1,6 @@
 -- The law of a row of checks: the first cause that holds refuses; where the numbers ascend, that is the smallest.
-use Rattle.std.specs.Prelude.{◌≡◌, refl, ◌↔◌, Bool, true, false, List, [], ◌∷◌, ◌++◌, ℕ, ◌≤◌, ◌<◌, eqb}
+use Rattle.std.specs.Prelude.{◌≡◌, refl, ◌↔◌, Bool, true, false, List, [], ◌∷◌, ◌++◌, ℕ, ◌≤◌, ◌<◌, eqb, if◌then◌else◌}
 use Rattle.std.proofs.Common.{subst, arith, ne_eqb}
-use Rattle.model.specs.Choice.{if◌then◌else◌}
 use Rattle.model.specs.Checks.{Check, refusal, Holds, here, there, First, holds, later, Smallest}
 use Rattle.model.proofs.TestLaws.{no_both}
 use Rattle.model.specs.Choice.{All}

@@ -1,5 +1,5 @@
 -- Laws of the two conversions: of any two forms whose readers read back what is written, and nothing else; then of the trace and the text.
-use Rattle.std.specs.Prelude.{◌≡◌, Bool, true, false, drop, replicate, ltb}
+use Rattle.std.specs.Prelude.{◌≡◌, Bool, true, false, drop, replicate, ltb, if◌then◌else◌}
 use Rattle.std.proofs.Math.Path.{refl, sym, ap}
 use Rattle.std.proofs.Common.{◌∙◌, true≢false, zero-add, length-append, lit≤, lt-ltb, le-ltb, ltb-true, ltb-false}
 use mathlib.Core.List.{List, [], ◌∷◌, ◌++◌, flatten, append_assoc, append-nil}
@@ -9,7 +9,6 @@ use native.Mathlib.Omega.{arith}
 use Rattle.std.proofs.Math.ListN.{length, length-drop}
 use Rattle.std.proofs.Math.Seq.{drop-append_seam}
 use Rattle.std.proofs.lemmas.List.{drop-append-le}
-use Rattle.model.specs.Choice.{if◌then◌else◌}
 use Rattle.model.specs.Choice.{All}
 use Rattle.model.proofs.LaneLaws.{Bytes, bytes_drop}
 use Rattle.model.specs.Accesses.{Access, Fits, access}

@@ -1,8 +1,7 @@
 -- "Those values are part of the record and survive a finished transfer, but not a reset; a kind 14 given directly neither uses nor changes them":
 -- no access of document 01 looks at the DMA registers, and none but a done reset changes them. By its row and its changes, kind by kind.
-use Rattle.std.specs.Prelude.{◌≡◌, refl, ◌≢◌, Bool, true, false, not, ◌||◌, List, [], ◌∷◌, ℕ, zero, suc, ◌+◌, ◌-◌, ◌*◌, ◌/◌, length, eqb, ltb}
+use Rattle.std.specs.Prelude.{◌≡◌, refl, ◌≢◌, Bool, true, false, not, ◌||◌, List, [], ◌∷◌, ℕ, zero, suc, ◌+◌, ◌-◌, ◌*◌, ◌/◌, length, eqb, ltb, if◌then◌else◌}
 use Rattle.std.proofs.Common.{ap, sym, ◌∙◌}
-use Rattle.model.specs.Choice.{if◌then◌else◌}
 use Rattle.model.specs.Checks.{◌for◌, refusal, above}
 use Rattle.model.specs.Sides.{Side, side_of, other}
 use Rattle.model.specs.Events.{mailbox, bit}

@@ -1,11 +1,11 @@
 -- Document 01, "FIFOs and flags": "Entries come out once each, in order. Accepted puts since the last reset equal successful takes plus entries held."
 -- Document 02, L2: the answers tell the depth.
 -- One access: what a FIFO held and what is put into it are what is taken out of it and what it holds then. Along a list this adds up.
-use Rattle.std.specs.Prelude.{◌≡◌, refl, ◌≢◌, Bool, true, false, not, ◌&&◌, List, [], ◌∷◌, ◌++◌, ℕ, zero, suc, ◌+◌, ◌-◌, ◌/◌, ◌%◌, ◌<◌, ◌≤◌, length, get_or, set, drop, replicate, eqb, ltb}
+use Rattle.std.specs.Prelude.{◌≡◌, refl, ◌≢◌, Bool, true, false, not, ◌&&◌, List, [], ◌∷◌, ◌++◌, ℕ, zero, suc, ◌+◌, ◌-◌, ◌/◌, ◌%◌, ◌<◌, ◌≤◌, length, get_or, set, drop, replicate, eqb, ltb, if◌then◌else◌}
 use Rattle.std.proofs.Common.{ap, sym, subst, ◌∙◌, append_assoc, append-nil, arith, length-append, get_or-set_same, get_or-set_other, eqb-true, ltb-true, ltb-false}
 use Rattle.std.proofs.Math.Dec.{eqb-suc-zero}
 use Rattle.std.proofs.lemmas.Bool.{eqb-false}
-use Rattle.model.specs.Choice.{if◌then◌else◌, every}
+use Rattle.model.specs.Choice.{every}
 use Rattle.model.specs.Checks.{refusal, above}
 use Rattle.model.specs.Sides.{side_of, other}
 use Rattle.model.specs.Events.{bit}

@@ -1,10 +1,9 @@
 -- What a reason says is held (L7): the last of the accepted puts. One access: what was held and what it puts are something, and then what is held.
-use Rattle.std.specs.Prelude.{◌≡◌, refl, ◌≢◌, Bool, true, false, not, ◌&&◌, ℕ, suc, ◌+◌, ◌≤◌, ◌<◌, length, get_or, take, drop, eqb}
+use Rattle.std.specs.Prelude.{◌≡◌, refl, ◌≢◌, Bool, true, false, not, ◌&&◌, ℕ, suc, ◌+◌, ◌≤◌, ◌<◌, length, get_or, take, drop, eqb, if◌then◌else◌}
 use Rattle.std.proofs.Common.{ap, sym, ◌∙◌, arith, length-append, length-drop, take-append-drop, drop_at, eqb-true}
 use mathlib.Core.List.{List, [], ◌∷◌, ◌++◌, map, map-append, map-eq-nil_iff, append_assoc, append-nil, append_cancel_left}
 use Rattle.std.proofs.lemmas.List.{length-map}
 use Rattle.std.proofs.lemmas.Bool.{eqb-false, not-true}
-use Rattle.model.specs.Choice.{if◌then◌else◌}
 use Rattle.model.specs.Sides.{Side, host, local}
 use Rattle.model.specs.Fifos.{entries_of}
 use Rattle.model.specs.State.{World}

@@ -1,9 +1,9 @@
 -- Laws of dwords and lanes, each shown once by induction on the number of lanes, byte by byte.
-use Rattle.std.specs.Prelude.{◌≡◌, refl, ◌⊎◌, Bool, true, false, List, [], ◌∷◌, ℕ, zero, suc, ◌+◌, ◌-◌, ◌*◌, ◌/◌, ◌%◌, ◌^◌, ◌<◌, ◌≤◌, get_or, set, length, take, drop}
+use Rattle.std.specs.Prelude.{◌≡◌, refl, ◌⊎◌, Bool, true, false, List, [], ◌∷◌, ℕ, zero, suc, ◌+◌, ◌-◌, ◌*◌, ◌/◌, ◌%◌, ◌^◌, ◌<◌, ◌≤◌, get_or, set, length, take, drop, if◌then◌else◌}
 use Rattle.std.proofs.Common.{ap, sym, ◌∙◌, inl, inr, arith, add-one, pow-suc, div-one, length-set, length-drop, take_all, get_or-drop, get_or-set_other, get_or-set_same}
 use Rattle.std.proofs.Math.Nat.{pow-succ', div-div-eq-div-mul}
 use Rattle.std.proofs.lemmas.List.{set_comm}
-use Rattle.model.specs.Choice.{if◌then◌else◌, every}
+use Rattle.model.specs.Choice.{every}
 use Rattle.model.specs.Lanes.{dword_of, bytes_of, enabled, lane_values, byte_at, stores, read_dword, write_dword, lane_bytes}
 use Rattle.model.proofs.TestLaws.{and_left, and_right, no_both}
 

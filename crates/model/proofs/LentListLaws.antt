@@ -1,8 +1,7 @@
 -- Laws of the lent list: which entries it holds and what stays, and an entry read back from its place, by the three numbers that each has.
-use Rattle.std.specs.Prelude.{◌≡◌, refl, Bool, true, false, List, [], ◌∷◌, ◌++◌, ℕ, zero, suc, ◌+◌, ◌-◌, ◌*◌, ◌/◌, ◌≤◌, ◌<◌, length, get_or, take, drop, eqb, ltb}
+use Rattle.std.specs.Prelude.{◌≡◌, refl, Bool, true, false, List, [], ◌∷◌, ◌++◌, ℕ, zero, suc, ◌+◌, ◌-◌, ◌*◌, ◌/◌, ◌≤◌, ◌<◌, length, get_or, take, drop, eqb, ltb, if◌then◌else◌}
 use Rattle.std.proofs.Common.{sym, ap, ◌∙◌, append_assoc, add-zero, arith, length-append, length-drop, get_or-drop, length-take-le, lt-ltb, le-ltb, ltb-true, ltb-false, eqb-true}
 use Rattle.std.proofs.Math.Seq.{drop-append_seam}
-use Rattle.model.specs.Choice.{if◌then◌else◌}
 use Rattle.model.proofs.TraceLaws.{members, take_members}
 use Rattle.model.specs.Rescue.{Entry, kept, skipped, entries, entry_numbers, numbers_of, found, nothing, entry_of, entry_at, count, refused, rescue}
 

@@ -1,9 +1,8 @@
 -- The lane facts of the local pins, for any number of lanes and so for every mode: a lane holds what it carries where it is enabled, else 0.
 -- By induction on the number of lanes, with the lane mask halved and the dword divided by 256 from lane to lane.
-use Rattle.std.specs.Prelude.{◌≡◌, List, [], ◌∷◌, ℕ, zero, suc, ◌+◌, ◌*◌, ◌/◌, ◌^◌, ◌≤◌, ◌<◌, get_or}
+use Rattle.std.specs.Prelude.{◌≡◌, List, [], ◌∷◌, ℕ, zero, suc, ◌+◌, ◌*◌, ◌/◌, ◌^◌, ◌≤◌, ◌<◌, get_or, if◌then◌else◌}
 use Rattle.std.proofs.Common.{◌∙◌, arith, div-one, zero-add, le-ltb}
 use Rattle.std.proofs.Math.Nat.{div-div-eq-div-mul, pow-succ', zero-div}
-use Rattle.model.specs.Choice.{if◌then◌else◌}
 use Rattle.model.specs.Lanes.{enabled, dword_of, byte_of, lane_values}
 use Rattle.model.specs.Pins.{lanes_of, data_byte, decode}
 use Rattle.model.proofs.TestLaws.{or-false, if_case}

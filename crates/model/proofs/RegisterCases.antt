@@ -1,6 +1,5 @@
 -- L4 at work: register accesses on the bench with their answers, one statement over a list of cases, by computation.
-use Rattle.std.specs.Prelude.{◌≡◌, refl, List, [], ◌∷◌, ◌++◌, map, ℕ, zero, suc, ◌+◌}
-use Rattle.model.specs.Choice.{if◌then◌else◌}
+use Rattle.std.specs.Prelude.{◌≡◌, refl, List, [], ◌∷◌, ◌++◌, map, ℕ, zero, suc, ◌+◌, if◌then◌else◌}
 use Rattle.model.specs.State.{sound, fresh_card}
 use Rattle.model.specs.Lanes.{read_dword, write_dword}
 use Rattle.model.specs.Runs.{run}

@@ -1,8 +1,7 @@
 -- Laws of register accesses: which offsets are modelled, what is refused and what is done, ARBUTIL pair after pair, and that a sound record stays
 -- sound.
-use Rattle.std.specs.Prelude.{◌≡◌, refl, Bool, true, false, ◌&&◌, List, [], ◌∷◌, ◌++◌, ℕ, zero, suc, ◌+◌, ◌*◌, ◌-◌, ◌^◌, eqb, leb, ltb}
+use Rattle.std.specs.Prelude.{◌≡◌, refl, Bool, true, false, ◌&&◌, List, [], ◌∷◌, ◌++◌, ℕ, zero, suc, ◌+◌, ◌*◌, ◌-◌, ◌^◌, eqb, leb, ltb, if◌then◌else◌}
 use Rattle.std.proofs.Common.{ap, ◌∙◌, arith, get_or-set_other, lit<, eqb-true}
-use Rattle.model.specs.Choice.{if◌then◌else◌}
 use Rattle.model.specs.Checks.{refusal, multiple_of4}
 use Rattle.model.specs.Sides.{Side, side_of, other, not_by}
 use Rattle.model.specs.Events.{bit}

@@ -1,11 +1,10 @@
 -- Rule 1 of register accesses: the causes in their order, and that the first that holds gives its number; a refusal answers two zeros and changes
 -- nothing. The rows of the table refuse as that order says, resource by resource; the map names no FIFO, no address and no transfer that would be
 -- refused for another cause.
-use Rattle.std.specs.Prelude.{◌≡◌, refl, ◌≢◌, ◌↔◌, Bool, true, false, not, ◌&&◌, ◌||◌, List, [], ◌∷◌, ℕ, zero, suc, ◌+◌, ◌-◌, ◌*◌, ◌/◌, ◌%◌, ◌≤◌, ◌<◌, eqb, leb, ltb}
+use Rattle.std.specs.Prelude.{◌≡◌, refl, ◌≢◌, ◌↔◌, Bool, true, false, not, ◌&&◌, ◌||◌, List, [], ◌∷◌, ℕ, zero, suc, ◌+◌, ◌-◌, ◌*◌, ◌/◌, ◌%◌, ◌≤◌, ◌<◌, eqb, leb, ltb, if◌then◌else◌}
 use Rattle.std.proofs.Common.{ap, ◌∙◌, arith, leb-true, ltb-true, eqb-true, le-ltb, lt-ltb, eq-eqb}
 use Rattle.std.proofs.lemmas.Nat.Bits.{and_high}
 use Rattle.std.proofs.Math.Dec.{eqb-suc-zero}
-use Rattle.model.specs.Choice.{if◌then◌else◌}
 use Rattle.model.specs.Checks.{Check, ◌for◌, refusal, First, nonzero, multiple_of4, above, misplaced, shared_length, pci_length}
 use Rattle.model.specs.Sides.{Side, side_of, other, not_by}
 use Rattle.model.specs.Fifos.{putter, taker}

@@ -1,10 +1,9 @@
 -- A sound record stays sound, the settings stay, and both memories keep their lengths, whatever the access; a fresh card is sound.
 -- Each change keeps one part sound under a condition of its own, and each kind's changes meet theirs.
-use Rattle.std.specs.Prelude.{◌≡◌, refl, Bool, true, false, not, ◌&&◌, List, [], ◌∷◌, ◌++◌, ℕ, zero, suc, ◌/◌, ◌%◌, ◌≤◌, ◌<◌, length, set, drop, eqb, ltb}
+use Rattle.std.specs.Prelude.{◌≡◌, refl, Bool, true, false, not, ◌&&◌, List, [], ◌∷◌, ◌++◌, ℕ, zero, suc, ◌/◌, ◌%◌, ◌≤◌, ◌<◌, length, set, drop, eqb, ltb, if◌then◌else◌}
 use Rattle.std.proofs.Common.{ap, sym, ◌∙◌, arith, length-append, lit≤, lit<, eqb-true, leb-true, ltb-true, le-leb, lt-ltb, eq-eqb}
 use Rattle.std.proofs.Math.Bool.{and-false}
 use Rattle.std.proofs.lemmas.Bool.{eqb-false, not-false}
-use Rattle.model.specs.Choice.{if◌then◌else◌}
 use Rattle.model.specs.Checks.{refusal, multiple_of4, above, shared_length}
 use Rattle.model.specs.Sides.{Side, host, local, side_of, other}
 use Rattle.model.specs.Events.{mailbox, mask, within, bit, stored_mask, enable_mask}

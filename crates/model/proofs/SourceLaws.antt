@@ -1,8 +1,7 @@
 -- One who asks for a source: any cause that holds gives the empty part, and where none holds the part of the memory that holds the source.
-use Rattle.std.specs.Prelude.{◌≡◌, List, ℕ, zero, suc, ◌<◌, eqb}
+use Rattle.std.specs.Prelude.{◌≡◌, List, ℕ, zero, suc, ◌<◌, eqb, if◌then◌else◌}
 use Rattle.std.proofs.Common.{arith, lit≤, lit<}
 use Rattle.std.proofs.Math.Dec.{eqb-suc-zero}
-use Rattle.model.specs.Choice.{if◌then◌else◌}
 use Rattle.model.specs.Checks.{refusal, Holds, Smallest}
 use Rattle.model.specs.Settings.{Settings}
 use Rattle.model.specs.Transfer.{Request}

@@ -1,8 +1,8 @@
 -- Laws of tests: of Bool, along a list, and of a choice by a test.
-use Rattle.std.specs.Prelude.{◌≡◌, refl, Bool, true, false, ◌&&◌, ◌||◌, List, [], ◌∷◌, ◌++◌, map, ℕ, zero, suc, get_or, set}
+use Rattle.std.specs.Prelude.{◌≡◌, refl, Bool, true, false, ◌&&◌, ◌||◌, List, [], ◌∷◌, ◌++◌, map, ℕ, zero, suc, get_or, set, if◌then◌else◌}
 use Rattle.std.proofs.Common.{ap, sym, arith}
 use Rattle.std.proofs.Math.Bool.{and_assoc}
-use Rattle.model.specs.Choice.{if◌then◌else◌, every, all_of}
+use Rattle.model.specs.Choice.{every, all_of}
 use Rattle.model.specs.Choice.{All}
 
 pub no_both : {X : Type 0} → ◌≡◌ {A = Bool} false true → X

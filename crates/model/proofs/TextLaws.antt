@@ -2,13 +2,12 @@
 -- field takes for a number, and what not.
 use Rattle.std.proofs.Math.Path.{◌≡◌, refl}
 use Rattle.std.proofs.Common.{sym, ap, ◌∙◌, pow-suc, div-lt_iff_lt-mul, arith, length-append, length-drop}
-use Rattle.std.specs.Prelude.{Bool, ◌&&◌, ℕ, zero, suc, ◌+◌, ◌-◌, ◌*◌, ◌/◌, ◌%◌, ◌^◌, ◌≤◌, ◌<◌, length, eqb}
+use Rattle.std.specs.Prelude.{Bool, ◌&&◌, ℕ, zero, suc, ◌+◌, ◌-◌, ◌*◌, ◌/◌, ◌%◌, ◌^◌, ◌≤◌, ◌<◌, length, eqb, if◌then◌else◌}
 use Rattle.std.proofs.Math.Bool.{true, false, not}
 use mathlib.Core.List.{List, [], ◌∷◌, ◌++◌, append_assoc, append-nil}
 use Rattle.std.proofs.Math.ListN.{drop}
 use Rattle.std.proofs.Math.Dec.{ltb}
 use borrow.Author.Tests.{eqb-true, eq-eqb, ne_eqb, lt-ltb, le-ltb, ltb-true, ltb-false}
-use Rattle.model.specs.Choice.{if◌then◌else◌}
 use Rattle.model.proofs.TestLaws.{no_both, and_left, and_right}
 use Rattle.model.specs.Text.{digit, digits_within, decimal_text, line_text, end_text, refusal_text, log_text, refused_line_text, field_text, is_digit, spelt, starts_with, Field, number, unreadable, read_field, read_decimal}
 use Rattle.model.specs.Text.{two_digits}

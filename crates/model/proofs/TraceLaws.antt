@@ -1,11 +1,10 @@
 -- Laws of the record of 20 bytes: the reader refuses with the smallest number whose cause holds, and looks at no more than 20 bytes; what was written
 -- is read back, and what was read is written the same.
-use Rattle.std.specs.Prelude.{◌≡◌, refl, Bool, true, false, ◌&&◌, List, [], ◌∷◌, ◌++◌, ℕ, zero, suc, ◌+◌, ◌^◌, ◌≤◌, ◌<◌, eqb, ltb, length, get_or, take, drop}
+use Rattle.std.specs.Prelude.{◌≡◌, refl, Bool, true, false, ◌&&◌, List, [], ◌∷◌, ◌++◌, ℕ, zero, suc, ◌+◌, ◌^◌, ◌≤◌, ◌<◌, eqb, ltb, length, get_or, take, drop, if◌then◌else◌}
 use Rattle.std.proofs.Common.{sym, ap, ◌∙◌, arith, lit≤, lit<, length-append, length-drop, take-append-drop, length-take-le, drop-cons, eq-eqb, ne_eqb, lt-ltb, le-ltb, ltb-false, eqb-true}
 use Rattle.std.proofs.Math.ListN.{get_or-append}
 use Rattle.std.proofs.lemmas.List.{take-append-le, drop-append-le}
 use Rattle.std.proofs.lemmas.Bool.{not-false}
-use Rattle.model.specs.Choice.{if◌then◌else◌}
 use Rattle.model.specs.Checks.{refusal, Smallest}
 use Rattle.model.specs.Lanes.{bytes_of}
 use Rattle.model.specs.Accesses.{Access, Fits}

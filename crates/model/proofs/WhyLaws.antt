@@ -1,10 +1,9 @@
 -- Document 02, L7: the answer is told by what the register shows before each record (T7.1, T7.2), by the accepted puts (T7.3), and its refusals
 -- by their causes (T7.4). Each record moves the reason as it moves the register, so the laws of one access and of any sequence of bits give it.
-use Rattle.std.specs.Prelude.{◌≡◌, ◌≢◌, ◌↔◌, Bool, true, false, ◌||◌, List, [], ◌∷◌, ◌++◌, map, ℕ, zero, suc, ◌≤◌, ◌<◌, length, eqb}
+use Rattle.std.specs.Prelude.{◌≡◌, ◌≢◌, ◌↔◌, Bool, true, false, ◌||◌, List, [], ◌∷◌, ◌++◌, map, ℕ, zero, suc, ◌≤◌, ◌<◌, length, eqb, if◌then◌else◌}
 use Rattle.std.proofs.Math.Path.{refl, ap}
 use Rattle.std.proofs.Common.{sym, ◌∙◌, zero-add, arith, lit<, ltb-true, ltb-false, lt-ltb}
 use Rattle.std.proofs.lemmas.Bool.{not-false}
-use Rattle.model.specs.Choice.{if◌then◌else◌}
 use Rattle.model.specs.Checks.{refusal, First, above}
 use Rattle.model.specs.Sides.{Side, host, local, side_of}
 use Rattle.model.specs.Events.{bit, inbound_post, outbound_post, insert, stored_mask}

@@ -1,6 +1,5 @@
 -- Document 01, "Accesses": the seventeen kinds, row by row, and what an access gives.
-use Rattle.std.specs.Prelude.{Bool, false, not, ◌&&◌, ◌||◌, List, [], ◌∷◌, ℕ, zero, suc, ◌-◌, ◌/◌, ◌<◌, get_or}
-use Rattle.model.specs.Choice.{if◌then◌else◌}
+use Rattle.std.specs.Prelude.{Bool, false, not, ◌&&◌, ◌||◌, List, [], ◌∷◌, ℕ, zero, suc, ◌-◌, ◌/◌, ◌<◌, get_or, if◌then◌else◌}
 use Rattle.model.specs.Checks.{Check, ◌for◌, refusal, nonzero, above, misplaced, shared_length}
 use Rattle.model.specs.Lanes.{read_dword}
 use Rattle.model.specs.Sides.{Side, host, local, side_of, not_by}

@@ -1,6 +1,6 @@
 -- Document 01, "FIFOs and flags": the four pairs of arbitration flags.
-use Rattle.std.specs.Prelude.{Bool, false, not, ◌&&◌, List, [], ◌∷◌, ℕ, ◌+◌, ◌*◌, length, get_or, set, replicate, eqb}
-use Rattle.model.specs.Choice.{if◌then◌else◌, every}
+use Rattle.std.specs.Prelude.{Bool, false, not, ◌&&◌, List, [], ◌∷◌, ℕ, ◌+◌, ◌*◌, length, get_or, set, replicate, eqb, if◌then◌else◌}
+use Rattle.model.specs.Choice.{every}
 use Rattle.model.specs.Sides.{Side, host, local}
 
 -- "four pairs of arbitration flags": a pair has a flag of each side

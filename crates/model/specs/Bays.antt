@@ -1,6 +1,5 @@
 -- Document 02, L5: the bays of the backplane, each by its place, its index and its label.
-use Rattle.std.specs.Prelude.{◌&&◌, ℕ, ◌+◌, ◌-◌, ◌*◌, ◌/◌, ◌%◌, ◌<◌, leb}
-use Rattle.model.specs.Choice.{if◌then◌else◌}
+use Rattle.std.specs.Prelude.{◌&&◌, ℕ, ◌+◌, ◌-◌, ◌*◌, ◌/◌, ◌%◌, ◌<◌, leb, if◌then◌else◌}
 
 -- a bay by its place, row and column "both from 0"
 pub record Bay : Type 0 where

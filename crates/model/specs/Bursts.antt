@@ -1,7 +1,7 @@
 -- Document 02, L10: local bursts of shared memory. Where the dword address goes, the single accesses of a burst, and what a burst gives: "It equals the
 -- single accesses done one by one."
-use Rattle.std.specs.Prelude.{Bool, true, false, not, ◌||◌, List, [], ◌∷◌, ◌++◌, map, ℕ, zero, suc, ◌+◌, ◌*◌, ◌/◌, get_or, length, drop, eqb, ltb}
-use Rattle.model.specs.Choice.{if◌then◌else◌, every}
+use Rattle.std.specs.Prelude.{Bool, true, false, not, ◌||◌, List, [], ◌∷◌, ◌++◌, map, ℕ, zero, suc, ◌+◌, ◌*◌, ◌/◌, get_or, length, drop, eqb, ltb, if◌then◌else◌}
+use Rattle.model.specs.Choice.{every}
 use Rattle.model.specs.Checks.{Check, ◌for◌, refusal, above}
 use Rattle.model.specs.Lanes.{read_dword, write_dword}
 use Rattle.model.specs.Sides.{local, side_of, not_by}

@@ -1,6 +1,5 @@
 -- Document 02, L1: "One program turns a text list of accesses into a trace, another turns it back."
-use Rattle.std.specs.Prelude.{Bool, true, false, List, [], ◌∷◌, ◌++◌, ℕ, zero, suc, ◌+◌, length, drop, ltb}
-use Rattle.model.specs.Choice.{if◌then◌else◌}
+use Rattle.std.specs.Prelude.{Bool, true, false, List, [], ◌∷◌, ◌++◌, ℕ, zero, suc, ◌+◌, length, drop, ltb, if◌then◌else◌}
 use Rattle.model.specs.Accesses.{Access}
 use Rattle.model.specs.Trace.{record_bytes, number_after, Reading, recorded, refused, read_record}
 use Rattle.model.specs.Text.{log_text, refused_line_text}

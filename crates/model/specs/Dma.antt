@@ -1,6 +1,5 @@
 -- Document 02, L4: the DMA registers, which a transfer is programmed in. Pages are those of document 000, the data sheet.
-use Rattle.std.specs.Prelude.{Bool, false, ℕ, ◌+◌, ◌*◌, ◌%◌, eqb}
-use Rattle.model.specs.Choice.{if◌then◌else◌}
+use Rattle.std.specs.Prelude.{Bool, false, ℕ, ◌+◌, ◌*◌, ◌%◌, eqb, if◌then◌else◌}
 use Rattle.model.specs.Sides.{Side, host, local, other}
 use Rattle.model.specs.Events.{bit, common}
 use Rattle.model.specs.Arbitration.{Pair, fresh_pair, pair_value, flag, with_flag}

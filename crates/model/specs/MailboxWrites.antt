@@ -1,6 +1,5 @@
 -- Document 01, "Mailboxes": what a write does.
-use Rattle.std.specs.Prelude.{[], ◌∷◌, ℕ, ◌%◌}
-use Rattle.model.specs.Choice.{if◌then◌else◌}
+use Rattle.std.specs.Prelude.{[], ◌∷◌, ℕ, ◌%◌, if◌then◌else◌}
 use Rattle.model.specs.Sides.{Side, other}
 use Rattle.model.specs.Events.{mailbox, bit}
 use Rattle.model.specs.Changes.{Effect, done, mail_is, raised}

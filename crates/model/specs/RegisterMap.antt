@@ -1,6 +1,5 @@
 -- Document 02, L4: what an offset in the 32 KB map names. Pages are those of document 000, the data sheet.
-use Rattle.std.specs.Prelude.{Bool, true, false, ◌&&◌, List, [], ◌∷◌, ℕ, ◌-◌, eqb, leb, ltb}
-use Rattle.model.specs.Choice.{if◌then◌else◌}
+use Rattle.std.specs.Prelude.{Bool, true, false, ◌&&◌, List, [], ◌∷◌, ℕ, ◌-◌, eqb, leb, ltb, if◌then◌else◌}
 use Rattle.model.specs.Checks.{multiple_of4}
 use Rattle.model.specs.Sides.{Side, host, local}
 use Rattle.model.specs.Dma.{Programmed, dmalbase, dmahbase, dmasize}

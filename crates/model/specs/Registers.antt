@@ -1,6 +1,5 @@
 -- Document 02, L4: reads and writes of dwords at offsets in the map, row by row. Where one is an access of document 01, its row is that access's.
-use Rattle.std.specs.Prelude.{true, not, List, [], ◌∷◌, ◌++◌, ℕ, zero, suc, ◌+◌, ◌*◌, ◌^◌}
-use Rattle.model.specs.Choice.{if◌then◌else◌}
+use Rattle.std.specs.Prelude.{true, not, List, [], ◌∷◌, ◌++◌, ℕ, zero, suc, ◌+◌, ◌*◌, ◌^◌, if◌then◌else◌}
 use Rattle.model.specs.Checks.{Check, ◌for◌, refusal, nonzero, above}
 use Rattle.model.specs.Sides.{Side, side_of, other, not_by}
 use Rattle.model.specs.Events.{bit}

@@ -1,6 +1,5 @@
 -- Document 02, L14: the scan of a damaged trace, the entries that it lists, and the lent list that holds them.
-use Rattle.std.specs.Prelude.{Bool, true, false, not, ◌&&◌, List, [], ◌∷◌, ◌++◌, ℕ, zero, suc, ◌+◌, ◌*◌, ◌/◌, length, get_or, take, drop, eqb, ltb}
-use Rattle.model.specs.Choice.{if◌then◌else◌}
+use Rattle.std.specs.Prelude.{Bool, true, false, not, ◌&&◌, List, [], ◌∷◌, ◌++◌, ℕ, zero, suc, ◌+◌, ◌*◌, ◌/◌, length, get_or, take, drop, eqb, ltb, if◌then◌else◌}
 use Rattle.model.specs.Accesses.{Access}
 use Rattle.model.specs.Trace.{next_number, number_at, access_at}
 

@@ -1,6 +1,6 @@
 -- Document 01, "The part we model": the card's record, both memories, sound records, the fresh card.
-use Rattle.std.specs.Prelude.{Bool, List, [], ◌∷◌, ℕ}
-use Rattle.model.specs.Choice.{if◌then◌else◌, all_of}
+use Rattle.std.specs.Prelude.{Bool, List, [], ◌∷◌, ℕ, if◌then◌else◌}
+use Rattle.model.specs.Choice.{all_of}
 use Rattle.model.specs.Settings.{Settings, zero_settings, settings_pass}
 use Rattle.model.specs.Fifos.{Fifos, fresh_fifos, fifos_sound}
 use Rattle.model.specs.Arbitration.{Arbitration, fresh_arbitration, arbitration_sound}

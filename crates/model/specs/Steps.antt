@@ -1,6 +1,5 @@
 -- Document 01, "Transfer": a step.
-use Rattle.std.specs.Prelude.{[], ◌∷◌, ℕ, zero, suc, ◌+◌, ◌-◌, ◌*◌, ◌/◌, eqb}
-use Rattle.model.specs.Choice.{if◌then◌else◌}
+use Rattle.std.specs.Prelude.{[], ◌∷◌, ℕ, zero, suc, ◌+◌, ◌-◌, ◌*◌, ◌/◌, eqb, if◌then◌else◌}
 use Rattle.model.specs.Lanes.{read_dword}
 use Rattle.model.specs.Events.{dma_complete, target_abort, master_abort}
 use Rattle.model.specs.Settings.{in_abort_range, outside_window}

@@ -1,6 +1,5 @@
 -- Document 02, L7: why an event bit reads as it does at the end of a trace, told by the changes that its accesses make.
-use Rattle.std.specs.Prelude.{Bool, true, false, not, ◌&&◌, ◌||◌, List, [], ◌∷◌, ◌++◌, map, ℕ, zero, suc, ◌-◌, ◌/◌, length, drop, replicate, eqb}
-use Rattle.model.specs.Choice.{if◌then◌else◌}
+use Rattle.std.specs.Prelude.{Bool, true, false, not, ◌&&◌, ◌||◌, List, [], ◌∷◌, ◌++◌, map, ℕ, zero, suc, ◌-◌, ◌/◌, length, drop, replicate, eqb, if◌then◌else◌}
 use Rattle.model.specs.Checks.{Check, ◌for◌, refusal, above}
 use Rattle.model.specs.Sides.{Side, side_of, not_by}
 use Rattle.model.specs.Events.{position, inbound_post, outbound_post, bit, enable_mask}

@@ -1,8 +1,7 @@
 // Document 02, L10: the phases of a burst: what one is, where the dword address goes, the checks, and their single accesses done in place.
 #![tactic(auto)]
 
-ghost use Rattle.std.specs.Prelude.{◌≡◌, true, ◌&&◌, ◌||◌, [], ◌≤◌, eqb, ltb, length};
-ghost use Rattle.model.specs.Choice.{if◌then◌else◌};
+ghost use Rattle.std.specs.Prelude.{◌≡◌, true, ◌&&◌, ◌||◌, [], ◌≤◌, eqb, ltb, length, if◌then◌else◌};
 ghost use Rattle.model.specs.Checks.{refusal, above, shared_length};
 ghost use Rattle.model.specs.Pins.{decode};
 ghost use Rattle.model.specs.Bursts.{reads, writes, advances, next, last_dword, list_after};

@@ -1,7 +1,6 @@
 -- A mailbox read by its offset: by the side that it goes to, or by the side that writes it.
-use Rattle.std.specs.Prelude.{◌≡◌, true, false, List, ℕ}
+use Rattle.std.specs.Prelude.{◌≡◌, true, false, List, ℕ, if◌then◌else◌}
 use Rattle.std.proofs.Common.{ap, sym, subst, ◌∙◌}
-use Rattle.model.specs.Choice.{if◌then◌else◌}
 use Rattle.model.specs.Sides.{Side, other, not_by}
 use Rattle.model.specs.Mailboxes.{mail_for}
 use Rattle.model.specs.Accesses.{Kind, row}

@@ -1,7 +1,7 @@
 -- Rule 3 of lists of calls: the two laws of `Moving` for the machine that notes what each call was to the transfers.
 -- A register access that is an access of document 01 changes places as that access does; of the others none looks at what a step changes. A burst
 -- changes places as its single accesses do.
-use Rattle.std.specs.Prelude.{◌≡◌, ◌≢◌, Bool, not, eqb}
+use Rattle.std.specs.Prelude.{◌≡◌, ◌≢◌, Bool, not, eqb, if◌then◌else◌}
 use Rattle.std.proofs.Math.Path.{refl}
 use Rattle.std.proofs.Common.{sym, ap, ◌∙◌, subst, arith}
 use Rattle.std.proofs.Math.Bool.{true, false}
@@ -9,7 +9,7 @@ use mathlib.Core.List.{List, [], ◌∷◌, ◌++◌, map, Permᴰ}
 use Prim.Native.Nat.{ℕ, zero, suc}
 use Rattle.std.proofs.Math.Dec.{eqb-suc-zero}
 use Rattle.std.proofs.lemmas.Bool.{not-false}
-use Rattle.model.specs.Choice.{if◌then◌else◌, every}
+use Rattle.model.specs.Choice.{every}
 use Rattle.model.specs.Checks.{Check, ◌for◌, refusal, above}
 use Rattle.model.specs.Sides.{Side, side_of, other, not_by}
 use Rattle.model.specs.Events.{bit}

@@ -1,11 +1,11 @@
 -- The second law of rule 3, that a quiet access and the done step right after it change places; and rule 3 of the card.
 -- The checks of each look only at what the other leaves, the changes of the two commute, and neither reads what the other stores.
-use Rattle.std.specs.Prelude.{◌≡◌, ◌≢◌, ◌⊎◌, Bool, true, false, not, ◌&&◌, ◌||◌, ℕ, zero, suc, ◌+◌, ◌-◌, ◌*◌, ◌≤◌, eqb}
+use Rattle.std.specs.Prelude.{◌≡◌, ◌≢◌, ◌⊎◌, Bool, true, false, not, ◌&&◌, ◌||◌, ℕ, zero, suc, ◌+◌, ◌-◌, ◌*◌, ◌≤◌, eqb, if◌then◌else◌}
 use Rattle.std.proofs.Math.Path.{refl, sym, ap}
 use Rattle.std.proofs.Common.{◌∙◌, subst, inl, inr, arith, lt-ltb, eq-eqb, eqb-true}
 use mathlib.Core.List.{List, [], ◌∷◌, map, Permᴰ}
 use Rattle.std.proofs.lemmas.Bool.{eqb-false, not-false, not-true}
-use Rattle.model.specs.Choice.{if◌then◌else◌, every}
+use Rattle.model.specs.Choice.{every}
 use Rattle.model.specs.Checks.{◌for◌, refusal, above, nonzero}
 use Rattle.model.specs.Lanes.{lane_bytes}
 use Rattle.model.specs.Settings.{Settings, settings_pass}

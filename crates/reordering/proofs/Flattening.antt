@@ -1,10 +1,10 @@
 -- Rule 3 where a burst counts as its single accesses: if the list with each burst replaced by them meets the premise, so does the list, and its steps move.
 -- By induction over the calls: a burst and its single accesses are nothing to the transfers, leave the same world, and are quiet alike.
-use Rattle.std.specs.Prelude.{◌≡◌, Bool, not, ◌&&◌, ◌||◌, List, [], ◌∷◌, ◌++◌, map, ℕ, eqb}
+use Rattle.std.specs.Prelude.{◌≡◌, Bool, not, ◌&&◌, ◌||◌, List, [], ◌∷◌, ◌++◌, map, ℕ, eqb, if◌then◌else◌}
 use Rattle.std.proofs.Math.Path.{refl, sym, ap}
 use Rattle.std.proofs.Common.{◌∙◌, subst}
 use Rattle.std.proofs.Math.Bool.{true, false, or-true}
-use Rattle.model.specs.Choice.{if◌then◌else◌, every}
+use Rattle.model.specs.Choice.{every}
 use Rattle.model.specs.Transfer.{Request}
 use Rattle.model.specs.State.{World, fresh_world}
 use Rattle.model.specs.Runs.{Entry, run, entry_at}

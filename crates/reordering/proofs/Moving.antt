@@ -1,10 +1,9 @@
 -- Rule 3 over any machine: to move each transfer's done steps to its start changes no answer and not the world at the end.
 -- By induction over the list, the steps of the open transfers pulled to the front, from two laws of the machine: `follows` and `exchange`.
-use Rattle.std.specs.Prelude.{◌≡◌, refl, ◌≢◌, Bool, true, false, ℕ, suc, ◌≤◌, ◌<◌, eqb}
+use Rattle.std.specs.Prelude.{◌≡◌, refl, ◌≢◌, Bool, true, false, ℕ, suc, ◌≤◌, ◌<◌, eqb, if◌then◌else◌}
 use Rattle.std.proofs.Common.{ap, ◌∙◌, le_trans, arith, eq-eqb, ne_eqb}
 use mathlib.Core.List.Permᴰ
 use mathlib.Core.List.{List, [], ◌∷◌, ◌++◌, map, append_assoc, append-nil, Permᴰ}
-use Rattle.model.specs.Choice.{if◌then◌else◌}
 use Rattle.model.specs.Runs.{Outcome, Entry, run, entry_at}
 use Rattle.reordering.specs.Roles.{TransferAction, resets, starts, steps, none, open_after, count_after, Role, start_of, step_of, neither, entry_of, role_of, roles_from, roles, steps_of, moved, Undisturbed, Owned}
 

@@ -1,6 +1,5 @@
 -- Facts of the kinds: which of them are plain, and what their rows look at.
-use Rattle.std.specs.Prelude.{◌≡◌, refl, ◌≢◌, Bool, true, false, List, [], ◌∷◌, ℕ, ◌-◌, length, ltb}
-use Rattle.model.specs.Choice.{if◌then◌else◌}
+use Rattle.std.specs.Prelude.{◌≡◌, refl, ◌≢◌, Bool, true, false, List, [], ◌∷◌, ℕ, ◌-◌, length, ltb, if◌then◌else◌}
 use Rattle.model.specs.Lanes.{read_dword}
 use Rattle.model.specs.Sides.{Side, host, local, side_of, other}
 use Rattle.model.specs.Events.{mailbox, bit}

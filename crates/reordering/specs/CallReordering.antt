@@ -1,6 +1,6 @@
 -- Rule 3 of lists of calls, L4's register accesses and L10's bursts among them: what a call is to the transfers, what it touches, and the claim.
-use Rattle.std.specs.Prelude.{◌≡◌, Bool, true, false, not, ◌||◌, List, [], ◌∷◌, ◌++◌, map, ℕ, zero, suc, eqb}
-use Rattle.model.specs.Choice.{if◌then◌else◌, every}
+use Rattle.std.specs.Prelude.{◌≡◌, Bool, true, false, not, ◌||◌, List, [], ◌∷◌, ◌++◌, map, ℕ, zero, suc, eqb, if◌then◌else◌}
+use Rattle.model.specs.Choice.{every}
 use Rattle.model.specs.Lanes.{lane_bytes}
 use Rattle.model.specs.Transfer.{Request}
 use Rattle.model.specs.Dma.{Dma, request_in}

@@ -1,6 +1,6 @@
 -- Rule 3: what disturbs a transfer between its start and its last done step, and the claim.
-use Rattle.std.specs.Prelude.{◌≡◌, Bool, true, not, ◌&&◌, ◌||◌, List, [], ◌∷◌, ◌++◌, map, ℕ, ◌+◌, eqb, leb, ltb}
-use Rattle.model.specs.Choice.{if◌then◌else◌, every}
+use Rattle.std.specs.Prelude.{◌≡◌, Bool, true, not, ◌&&◌, ◌||◌, List, [], ◌∷◌, ◌++◌, map, ℕ, ◌+◌, eqb, leb, ltb, if◌then◌else◌}
+use Rattle.model.specs.Choice.{every}
 use Rattle.model.specs.Lanes.{lane_bytes}
 use Rattle.model.specs.Settings.{Settings}
 use Rattle.model.specs.Transfer.{Request, request_of}

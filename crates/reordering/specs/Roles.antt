@@ -1,7 +1,6 @@
 -- Rule 3's terms, of any machine: which entry of a list starts or steps which transfer, and the list with each transfer's steps moved to its start.
-use Rattle.std.specs.Prelude.{◌≡◌, ◌≢◌, Bool, true, false, ℕ, suc, eqb}
+use Rattle.std.specs.Prelude.{◌≡◌, ◌≢◌, Bool, true, false, ℕ, suc, eqb, if◌then◌else◌}
 use mathlib.Core.List.{List, [], ◌∷◌, ◌++◌, tail}
-use Rattle.model.specs.Choice.{if◌then◌else◌}
 
 -- What an answered access is to the transfers; T is what a start says of its own. `steps true` is a transfer's last: V is 2, 3 or 4.
 pub data TransferAction (T : Type 0) : Type 0 where

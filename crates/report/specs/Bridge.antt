@@ -1,6 +1,5 @@
 -- What contracts of report cite: the line for standard error.
-use Rattle.std.specs.Prelude.{Bool, List, [], ◌∷◌, ◌++◌, ℕ}
-use Rattle.model.specs.Choice.{if◌then◌else◌}
+use Rattle.std.specs.Prelude.{Bool, List, [], ◌∷◌, ◌++◌, ℕ, if◌then◌else◌}
 use Rattle.model.specs.Text.{field_text}
 
 -- 114 101 97 100 105 110 103 spells `reading`, and 119 114 105 116 105 110 103 `writing`

@@ -1,5 +1,5 @@
 -- An entry more in a list, where it has a place and where not; what a trace half scanned has listed; and an entry read back.
-use Rattle.std.specs.Prelude.{◌≡◌, refl, ◌⊎◌, Bool, not, ◌&&◌, ◌||◌, ℕ, zero, suc, ◌+◌, ◌-◌, ◌*◌, ◌/◌, ◌≤◌, ◌<◌, take, eqb, ltb}
+use Rattle.std.specs.Prelude.{◌≡◌, refl, ◌⊎◌, Bool, not, ◌&&◌, ◌||◌, ℕ, zero, suc, ◌+◌, ◌-◌, ◌*◌, ◌/◌, ◌≤◌, ◌<◌, take, eqb, ltb, if◌then◌else◌}
 use Rattle.std.proofs.Math.Path.{sym, ap}
 use Rattle.std.proofs.Common.{◌∙◌, inl, inr, length-drop, take_at}
 use Rattle.std.proofs.Math.Bool.{true, false}
@@ -10,7 +10,6 @@ use Rattle.std.proofs.lemmas.List.Edits.{sets, sets-eq}
 use Rattle.std.proofs.Math.Seq.{take_all, drop-append-add, drop-drop, drop-length, length-take-le}
 use Rattle.std.proofs.lemmas.List.{take-append-le}
 use borrow.Author.Tests.{lt-ltb, le-ltb, ltb-true, ltb-false, eqb-true, eqb-false}
-use Rattle.model.specs.Choice.{if◌then◌else◌}
 use Rattle.model.proofs.TestLaws.{or_left, or_right}
 use Rattle.model.specs.Trace.{next_number, number_at}
 use Rattle.model.specs.Rescue.{Entry, Place, range, kept_at, moved, listed, after, scan, entry_numbers, numbers_of, entries, count, refused, rescue}

@@ -1,7 +1,6 @@
 -- What moves write, list and leave, one part after another; up to a record, and with it; and a chunk, from its start to its end.
-use Rattle.std.specs.Prelude.{◌≡◌, refl, Bool, true, false, not, List, [], ◌∷◌, ◌++◌, ℕ, zero, suc, ◌+◌, ◌≤◌, length, drop, eqb}
+use Rattle.std.specs.Prelude.{◌≡◌, refl, Bool, true, false, not, List, [], ◌∷◌, ◌++◌, ℕ, zero, suc, ◌+◌, ◌≤◌, length, drop, eqb, if◌then◌else◌}
 use Rattle.std.proofs.Common.{sym, ap, ◌∙◌, append_assoc, append-nil, add-zero, arith, length-drop, eqb-true, eq-eqb}
-use Rattle.model.specs.Choice.{if◌then◌else◌}
 use Rattle.model.specs.Accesses.{Access}
 use Rattle.model.specs.Trace.{next_number, number_at}
 use Rattle.model.specs.Convert.{Form, trace_form, written}

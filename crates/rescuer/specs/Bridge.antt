@@ -1,9 +1,8 @@
 -- What the two programs promise between their calls of the C library: which output stands ready to be written, for the bytes that the buffers hold;
 -- that there are chunks whose scan leads to where it ended; and what closes the output.
-use Rattle.std.specs.Prelude.{◌≡◌, Bool, true, false, not, ◌||◌, ℕ, ◌+◌, ◌≤◌, length, take, drop}
+use Rattle.std.specs.Prelude.{◌≡◌, Bool, true, false, not, ◌||◌, ℕ, ◌+◌, ◌≤◌, length, take, drop, if◌then◌else◌}
 use mathlib.Core.List.{List, [], ◌++◌, flatten}
 use Rattle.std.proofs.lemmas.List.Edits.{sets}
-use Rattle.model.specs.Choice.{if◌then◌else◌}
 use Rattle.model.specs.Rescue.{Move, scan, moves, Place, beginning, listed, after}
 use Rattle.model.specs.RescueText.{Tally, none, tally}
 use Rattle.model.specs.Rescue.{sizes}

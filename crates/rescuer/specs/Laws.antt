@@ -1,10 +1,9 @@
 -- A chunk is rescued by what its scan promises; one chunk more behind others; and the output of a rescue that did not break off is that of the whole
 -- trace.
-use Rattle.std.specs.Prelude.{◌≡◌, refl, ◌⊎◌, Bool, true, false, ◌||◌, ℕ, ◌+◌, ◌-◌, ◌≤◌, ◌<◌, length, take, drop, eqb}
+use Rattle.std.specs.Prelude.{◌≡◌, refl, ◌⊎◌, Bool, true, false, ◌||◌, ℕ, ◌+◌, ◌-◌, ◌≤◌, ◌<◌, length, take, drop, eqb, if◌then◌else◌}
 use Rattle.std.proofs.Common.{sym, ap, ◌∙◌, inl, inr, zero-add, arith, length-append, length-take-le, lit≤, ne_eqb}
 use mathlib.Core.List.{List, [], ◌∷◌, ◌++◌, flatten, append_assoc, append-nil}
 use Rattle.std.proofs.Math.Nat.{sub-zero}
-use Rattle.model.specs.Choice.{if◌then◌else◌}
 use Rattle.model.proofs.TestLaws.{or_right, no_both, if_case}
 use Rattle.model.specs.Rescue.{Move, scan, moves, beginning, listed, after}
 use Rattle.model.specs.RescueText.{none, tally}

@@ -1,9 +1,8 @@
 -- A request for a source: its checks as the code groups them, and by its refusal the part that it gets, which lies in its memory.
-use Rattle.std.specs.Prelude.{◌≡◌, refl, Bool, not, ◌&&◌, List, [], ◌∷◌, ◌++◌, ℕ, zero, suc, ◌+◌, ◌-◌, ◌≤◌, eqb, length}
+use Rattle.std.specs.Prelude.{◌≡◌, refl, Bool, not, ◌&&◌, List, [], ◌∷◌, ◌++◌, ℕ, zero, suc, ◌+◌, ◌-◌, ◌≤◌, eqb, length, if◌then◌else◌}
 use Rattle.std.proofs.Common.{sym, ◌∙◌, arith, lit<}
 use Rattle.std.proofs.Math.Dec.{eqb-suc-zero}
 use borrow.Author.Tests.{eqb-true, ne_eqb, not-false}
-use Rattle.model.specs.Choice.{if◌then◌else◌}
 use Rattle.model.specs.Checks.{◌for◌, refusal, above, misplaced, shared_length, pci_length}
 use Rattle.model.specs.Settings.{Settings, settings_pass, lengths_fit, outside_window}
 use Rattle.model.specs.Transfer.{Request, request_checks}

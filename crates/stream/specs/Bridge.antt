@@ -1,7 +1,6 @@
 -- What a chunk of the input is, what is kept of the last, what of it is answered or turned, and how the program goes on.
-use Rattle.std.specs.Prelude.{◌≡◌, Bool, true, not, ◌&&◌, ◌||◌, List, ℕ, ◌-◌, ◌%◌, ◌<◌, ◌≤◌, length, take, drop, eqb, ℤ, pos}
+use Rattle.std.specs.Prelude.{◌≡◌, Bool, true, not, ◌&&◌, ◌||◌, List, ℕ, ◌-◌, ◌%◌, ◌<◌, ◌≤◌, length, take, drop, eqb, ℤ, pos, if◌then◌else◌}
 use Rattle.std.specs.Int.Signed.{lt_z}
-use Rattle.model.specs.Choice.{if◌then◌else◌}
 use Rattle.stream.specs.declared.Chunk.{Chunk}
 
 -- an answer below 0: 0 is the end of the input

@@ -1,8 +1,7 @@
 // Standard input and output, a chunk at a time. No contract can say what is read or written; a call that fails is told from the end of the input.
 #![tactic(auto)]
 
-ghost use Rattle.std.specs.Prelude.{◌≡◌, ◌≤◌, length, take};
-ghost use Rattle.model.specs.Choice.{if◌then◌else◌};
+ghost use Rattle.std.specs.Prelude.{◌≡◌, ◌≤◌, length, take, if◌then◌else◌};
 ghost use Rattle.stream.specs.Bridge.{negative, Keeps, Reads, at_hand, least_of, goes_on, broke_off};
 
 use std::io::{Read, Stdin};

@@ -2,8 +2,7 @@
 // No contract can say what is read or written.
 #![tactic(auto)]
 
-ghost use Rattle.std.specs.Prelude.{◌≡◌, ◌+◌, ◌*◌, ltb, length};
-ghost use Rattle.model.specs.Choice.{if◌then◌else◌};
+ghost use Rattle.std.specs.Prelude.{◌≡◌, ◌+◌, ◌*◌, ltb, length, if◌then◌else◌};
 ghost use Rattle.model.specs.Lanes.{read_dword};
 ghost use Rattle.testing.specs.Bridge.{with_number, digest_from};
 

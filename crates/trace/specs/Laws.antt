@@ -1,8 +1,7 @@
 -- The number of a record beside the checks of what stands there: 22 is given after 20 and 21, and before 23; and a record stored part by part.
-use Rattle.std.specs.Prelude.{◌≡◌, ℕ, ◌+◌, ◌<◌, ◌≤◌, Bool, true, false, not, ◌&&◌, List, [], ◌∷◌, length, drop, ◌==◌, ◌≢◌, nat_eq, nat_lt, slice_index, slice_index_or, refl}
+use Rattle.std.specs.Prelude.{◌≡◌, ℕ, ◌+◌, ◌<◌, ◌≤◌, Bool, true, false, not, ◌&&◌, List, [], ◌∷◌, length, drop, ◌==◌, ◌≢◌, nat_eq, nat_lt, slice_index, slice_index_or, refl, if◌then◌else◌}
 use Rattle.std.proofs.Common.{ap, ◌∙◌, add-zero, arith, length-drop, get_or-drop, eq-eqb, eqb-true, le-ltb}
 use Rattle.std.proofs.lemmas.List.Edits.{sets, sets-eq}
-use Rattle.model.specs.Choice.{if◌then◌else◌}
 use Rattle.model.specs.Checks.{◌for◌, refusal}
 use Rattle.model.specs.Lanes.{dword_of, write_dword}
 use Rattle.model.specs.Accesses.{Access}

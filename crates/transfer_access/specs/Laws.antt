@@ -1,8 +1,7 @@
 -- Laws of a step: the dword copied by its direction, the step's effect branch by branch, and that a sound card can step.
-use Rattle.std.specs.Prelude.{◌≡◌, Bool, true, false, List, [], ◌∷◌, ℕ, zero, suc, ◌+◌, ◌-◌, ◌*◌, ◌/◌, eqb}
+use Rattle.std.specs.Prelude.{◌≡◌, Bool, true, false, List, [], ◌∷◌, ℕ, zero, suc, ◌+◌, ◌-◌, ◌*◌, ◌/◌, eqb, if◌then◌else◌}
 use Rattle.std.proofs.Math.Path.{refl}
 use Rattle.std.proofs.Common.{ap, sym, ◌∙◌, arith, add-one}
-use Rattle.model.specs.Choice.{if◌then◌else◌}
 use Rattle.model.specs.Checks.{refusal, ◌for◌, nonzero, misplaced, shared_length, pci_length}
 use Rattle.model.specs.Lanes.{read_dword, write_dword}
 use Rattle.model.specs.Events.{Event, target_abort, master_abort, mask, dma_complete}

@@ -1,7 +1,6 @@
 -- What one chunk of the replay promises between the calls of the C library: which text stands ready to be written, for the bytes that the
 -- buffers hold; and the last lines.
-use Rattle.std.specs.Prelude.{◌≡◌, Bool, true, false, not, ◌||◌, List, [], ℕ, ◌≤◌, length, take}
-use Rattle.model.specs.Choice.{if◌then◌else◌}
+use Rattle.std.specs.Prelude.{◌≡◌, Bool, true, false, not, ◌||◌, List, [], ℕ, ◌≤◌, length, take, if◌then◌else◌}
 use Rattle.model.specs.Replay.{Standing, replay, last_text}
 use Rattle.report.specs.Bridge.{failed_text}
 use Rattle.standing.specs.declared.Standing as code

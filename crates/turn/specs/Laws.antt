@@ -1,8 +1,7 @@
 -- A chunk is replayed by what its answering promises; one behind which more is read was full.
-use Rattle.std.specs.Prelude.{◌≡◌, true, false, List, ℕ, ◌-◌, ◌≤◌, length, take, eqb}
+use Rattle.std.specs.Prelude.{◌≡◌, true, false, List, ℕ, ◌-◌, ◌≤◌, length, take, eqb, if◌then◌else◌}
 use Rattle.std.proofs.Common.{sym, ◌∙◌, arith, length-take-le, eqb→eq}
 use Rattle.std.proofs.Math.Nat.{sub-zero}
-use Rattle.model.specs.Choice.{if◌then◌else◌}
 use Rattle.model.specs.Replay.{Standing, replay}
 use Rattle.decimal.specs.Laws.{text_there}
 use Rattle.standing.specs.Bridge.{standing_as}

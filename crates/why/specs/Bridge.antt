@@ -1,6 +1,5 @@
 -- What contracts of why cite: which positions follow a FIFO, and what a card shows of a position.
-use Rattle.std.specs.Prelude.{Bool, not, ◌||◌, List, [], ℕ, length, eqb}
-use Rattle.model.specs.Choice.{if◌then◌else◌}
+use Rattle.std.specs.Prelude.{Bool, not, ◌||◌, List, [], ℕ, length, eqb, if◌then◌else◌}
 use Rattle.model.specs.Sides.{Side}
 use Rattle.model.specs.Fifos.{entries_of}
 use Rattle.model.specs.State.{State}

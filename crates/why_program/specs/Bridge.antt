@@ -1,8 +1,7 @@
 -- What the program promises between its calls of the C library: that an argument is read as a number, which text stands ready for the bytes that the
 -- input buffer holds, and what of it goes to standard output and to standard error.
-use Rattle.std.specs.Prelude.{◌≡◌, Bool, not, ◌&&◌, ◌||◌, List, [], ℕ, ◌/◌, ◌≤◌, length, take}
+use Rattle.std.specs.Prelude.{◌≡◌, Bool, not, ◌&&◌, ◌||◌, List, [], ℕ, ◌/◌, ◌≤◌, length, take, if◌then◌else◌}
 use Rattle.std.proofs.lemmas.List.Edits.{sets}
-use Rattle.model.specs.Choice.{if◌then◌else◌}
 use Rattle.model.specs.WhyText.{why_output}
 use Rattle.decimal.specs.declared.Whole.{Whole}
 use Rattle.decimal.specs.Bridge.{ReadWhole}

@@ -1,7 +1,6 @@
 -- A trace that the buffer does not hold is refused for its length alone, so that the answer is that of the whole.
-use Rattle.std.specs.Prelude.{◌≡◌, refl, Bool, true, false, List, ◌++◌, ℕ, ◌≤◌, ◌<◌, length}
+use Rattle.std.specs.Prelude.{◌≡◌, refl, Bool, true, false, List, ◌++◌, ℕ, ◌≤◌, ◌<◌, length, if◌then◌else◌}
 use Rattle.std.proofs.Common.{ap, arith, length-append, lt-ltb}
-use Rattle.model.specs.Choice.{if◌then◌else◌}
 use Rattle.model.specs.Checks.{above}
 use Rattle.model.specs.Sides.{side_of}
 use Rattle.model.specs.Text.{FieldReading, number, unreadable, read_decimal}

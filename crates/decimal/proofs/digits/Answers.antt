@@ -12,11 +12,11 @@ loop-left-preserved c = omega (arith, two_digits_longer c.loop-left.left (omega 
 pub overflow_add-result : goal.overflow_add-result
 overflow_add-result c = omega (arith, digits_64 c.args.n (omega arith))
 
-pub overflow_add-result-else-left-ge10 : goal.overflow_add-result-else-left-ge10
-overflow_add-result-else-left-ge10 c = omega (arith, digits_64 c.args.n (omega arith))
+pub overflow_add-result-else-left-ge-TWO_DIGITS_FROM : goal.overflow_add-result-else-left-ge-TWO_DIGITS_FROM
+overflow_add-result-else-left-ge-TWO_DIGITS_FROM c = omega (arith, digits_64 c.args.n (omega arith))
 
-pub returns-then-left-ge10 : goal.returns-then-left-ge10
-returns-then-left-ge10 c = omega (arith, ap length (two_digits_lem c.loop-left.left (omega arith) (omega arith)))
+pub returns-then-left-ge-TWO_DIGITS_FROM : goal.returns-then-left-ge-TWO_DIGITS_FROM
+returns-then-left-ge-TWO_DIGITS_FROM c = omega (arith, ap length (two_digits_lem c.loop-left.left (omega arith) (omega arith)))
 
-pub returns-else-left-ge10 : goal.returns-else-left-ge10
-returns-else-left-ge10 c = omega (arith, ap length (one_digit c.loop-left.left (omega arith)))
+pub returns-else-left-ge-TWO_DIGITS_FROM : goal.returns-else-left-ge-TWO_DIGITS_FROM
+returns-else-left-ge-TWO_DIGITS_FROM c = omega (arith, ap length (one_digit c.loop-left.left (omega arith)))

@@ -23,14 +23,14 @@ loop-left-preserved c =
     let same : c.write_two_digits.result ≡ l.p = omega (arith, two_digits_longer l.left (omega arith)) in
     (omega arith, omega arith, two_less _ c.loop-left-test.true same l.invariant.2 c.write_two_digits.ensures)
 
-pub write_two_digits-requires-then-left-ge10-clause-at_in_bounds : goal.write_two_digits-requires-then-left-ge10-clause-at_in_bounds
-write_two_digits-requires-then-left-ge10-clause-at_in_bounds c = omega (arith, ap length (two_digits_lem c.loop-left.left (omega arith) (omega arith)))
+pub write_two_digits-requires-then-left-ge-TWO_DIGITS_FROM-clause-at_in_bounds : goal.write_two_digits-requires-then-left-ge-TWO_DIGITS_FROM-clause-at_in_bounds
+write_two_digits-requires-then-left-ge-TWO_DIGITS_FROM-clause-at_in_bounds c = omega (arith, ap length (two_digits_lem c.loop-left.left (omega arith) (omega arith)))
 
-pub returns-then-left-ge10 : goal.returns-then-left-ge10
-returns-then-left-ge10 c =
+pub returns-then-left-ge-TWO_DIGITS_FROM : goal.returns-then-left-ge-TWO_DIGITS_FROM
+returns-then-left-ge-TWO_DIGITS_FROM c =
     let l = c.loop-left in
     let left : Written _ _ (two_digits l.left) _ _ = rw (two_digits_lem l.left (omega arith) (omega arith)) at l.invariant.2 in
-    record { place = omega arith; bytes = c.write_two_digits-then-left-ge10.ensures.bytes ∙ sym left.bytes }
+    record { place = omega arith; bytes = c.write_two_digits-then-left-ge-TWO_DIGITS_FROM.ensures.bytes ∙ sym left.bytes }
 
 pub write_byte-requires : goal.write_byte-requires
 write_byte-requires c = omega (arith, ap length (one_digit c.loop-left.left (omega arith)))
