@@ -22,8 +22,8 @@ use std::path::{Path, PathBuf};
 
 const MAP: &str = "docs/ARCHITECTURE.md";
 const PROMISES: &str = "docs/PROMISES.md";
-/// It tells of the past, of names that are gone too.
-const CHANGES: &str = "docs/CHANGES.md";
+/// They tell of the past, of names that are gone too.
+const PAST: [&str; 2] = ["docs/CHANGES.md", "docs/PORT.md"];
 
 /// Names that stand for any name, where a document says how it cites.
 const PLACEHOLDERS: [&str; 6] = [
@@ -498,7 +498,7 @@ fn documents(root: &Path) -> Vec<String> {
     let in_docs = files.filter(|path| path.extension().is_some_and(|end| end == "md"));
     in_docs
         .map(|path| format!("docs/{}.md", stem(&path)))
-        .filter(|path| path != CHANGES)
+        .filter(|path| !PAST.contains(&path.as_str()))
         .chain(["README.md".to_string()])
         .collect()
 }
