@@ -4,13 +4,11 @@ use Rattle.std.proofs.Common.{sym, ◌∙◌, arith, lit<, ltb-false}
 use Rattle.std.proofs.lemmas.Bool.{not-false}
 use Rattle.model.specs.Checks.{refusal, above, shared_length}
 use Rattle.model.specs.Accesses.{fit}
-use Rattle.model.specs.Bursts.{Way, Burst, short, list_after}
+use Rattle.model.specs.Bursts.{Way, Burst, short, list_after, shared_from, entries_from}
 use Rattle.model.proofs.TestLaws.{or_right}
 use Rattle.model.proofs.CheckLaws.{passed_all}
 use Rattle.model.proofs.Soundness.{fit_parts}
 use Rattle.model.proofs.BurstLaws.{burst_refusal, accepted_is, refused_is}
-use Rattle.model.specs.Bursts.{shared_from}
-use Rattle.model.specs.Bursts.{entries_from}
 use Rattle.card.specs.declared.Card.{Card}
 use Rattle.card.specs.Bridge.{world_as}
 use Rattle.phases.specs.declared.Total.{Total}

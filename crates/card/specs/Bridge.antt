@@ -6,8 +6,7 @@ use Rattle.model.specs.Checks.{refusal}
 use Rattle.model.specs.Changes.{apply_all, Store, shared_after, window_after, Effect}
 use Rattle.model.specs.Runs as runs
 use Rattle.model.specs.Accesses as words
-use Rattle.model.specs.Accesses.{Kind, Row, settled}
-use Rattle.model.specs.Accesses.{does}
+use Rattle.model.specs.Accesses.{Kind, Row, settled, does}
 use Rattle.access.specs.declared.Access.{Access}
 use Rattle.access.specs.declared.Answer.TheVariants.{Done, Refused}
 use Rattle.access.specs.Bridge.{access_as, answer_as}

@@ -15,8 +15,7 @@ use Rattle.model.specs.Transfer.{transfer_sound}
 use Rattle.model.specs.State.{State, World, sound, with_interrupts, fresh, fresh_card}
 use Rattle.model.specs.Changes.{apply_all, raised_in_both, nothing, Effect, done}
 use Rattle.model.specs.Accesses as words
-use Rattle.model.specs.Accesses.{Kind, Row, row_of, settled}
-use Rattle.model.specs.Accesses.{does}
+use Rattle.model.specs.Accesses.{Kind, Row, row_of, settled, does}
 use Rattle.model.proofs.CheckLaws.{Pass, passed}
 use Rattle.model.proofs.Refusals.{row_ascending, settled_number}
 use Rattle.access.specs.declared.Access.{Access}

@@ -3,8 +3,7 @@
 #![tactic(auto)]
 
 ghost use Rattle.std.specs.Prelude.{◌≡◌, false, [], ◌∷◌, ◌+◌, ◌<◌, ◌≤◌, length, drop};
-ghost use Rattle.model.specs.Text.{decimal_text, field_text, is_digit};
-ghost use Rattle.model.specs.Text.{two_digits};
+ghost use Rattle.model.specs.Text.{decimal_text, field_text, is_digit, two_digits};
 ghost use Rattle.decimal.specs.Bridge.{Written, no_field, digit_in, closed_at, ReadAt, capped, ReadWhole};
 
 // The least number that has two digits.

@@ -1,10 +1,9 @@
 -- L14, what is not a theorem: traces on which the scan never comes back to a boundary, keeps a false record without doubt, or doubts a true one; computed.
 use Rattle.std.specs.Prelude.{◌≡◌, refl, ◌≢◌, true, false, List, [], ◌∷◌, ◌++◌, map, ℕ, ◌+◌, ◌*◌, take, drop, set}
 use Rattle.std.proofs.Common.{ap, sym, ◌∙◌, arith}
-use Rattle.model.specs.Choice.{every}
+use Rattle.model.specs.Choice.{every, All}
 use Rattle.model.specs.Accesses.{Access}
 use Rattle.model.proofs.TestLaws.{no_both}
-use Rattle.model.specs.Choice.{All}
 use Rattle.model.specs.Trace.{recorded, read_record}
 use Rattle.model.specs.Convert.{trace_form, written}
 use Rattle.model.specs.Bench.{q}

@@ -1,12 +1,7 @@
 -- What contracts of history cite: the code's answer as the model's, what a record makes of a case and of the puts, and what a history knows.
 use Rattle.std.specs.Prelude.{◌≡◌, ◌⊎◌, Bool, true, false, List, [], ◌∷◌, ◌++◌, map, ℕ, zero, suc, length, get_or, drop, eqb, ltb, if◌then◌else◌}
-use Rattle.model.specs.Why.{Holding, Reason, cleared_by, set_by, Answer, refused, because, Told}
+use Rattle.model.specs.Why.{Holding, Reason, cleared_by, set_by, Answer, refused, because, Told, settled_by, Moved, turned, held_by, is_up}
 use Rattle.model.specs.Why as model
-use Rattle.model.specs.Why.{settled_by}
-use Rattle.model.specs.Why.{Moved}
-use Rattle.model.specs.Why.{turned}
-use Rattle.model.specs.Why.{held_by}
-use Rattle.model.specs.Why.{is_up}
 use Rattle.fifos.specs.Bridge.{entries_as}
 use Rattle.history.specs.declared.Case.{Case}
 use Rattle.history.specs.declared.Case.TheVariants as code

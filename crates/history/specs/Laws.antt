@@ -3,13 +3,7 @@ use Rattle.std.specs.Prelude.{◌≡◌, refl, ◌⊎◌, Bool, true, false, Lis
 use Rattle.std.proofs.Common.{sym, ap, ◌∙◌, inl, inr, arith, length-append, lt-ltb, le-ltb}
 use Rattle.std.proofs.lemmas.List.{length-map}
 use Rattle.std.proofs.Math.Dec.{eqb-suc-zero}
-use Rattle.model.specs.Why.{Holding, Reason, because, places, told}
-use Rattle.model.specs.Why.{same, longer, shorter, emptied}
-use Rattle.model.specs.Why.{settled_by}
-use Rattle.model.specs.Why.{Moved}
-use Rattle.model.specs.Why.{turned}
-use Rattle.model.specs.Why.{held_by}
-use Rattle.model.specs.Why.{is_up}
+use Rattle.model.specs.Why.{Holding, Reason, because, places, told, same, longer, shorter, emptied, settled_by, Moved, turned, held_by, is_up}
 use Rattle.fifos.specs.Bridge.{entries_as}
 use Rattle.fifos.specs.Laws.{length_entries}
 use Rattle.history.specs.declared.Case.{Case}

@@ -2,8 +2,7 @@
 #![tactic(auto)]
 
 ghost use Rattle.std.specs.Prelude.{◌≡◌, List, map, ℕ, ◌≤◌};
-ghost use Rattle.model.specs.Why.{Reason, never, refused, because, places, told};
-ghost use Rattle.model.specs.Why.{held_by};
+ghost use Rattle.model.specs.Why.{Reason, never, refused, because, places, told, held_by};
 ghost use Rattle.fifos.specs.Bridge.{entries_as};
 ghost use Rattle.history.specs.Bridge.{told_as, is_set, turned_case, puts_after, Knows, Next};
 

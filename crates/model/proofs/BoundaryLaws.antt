@@ -3,18 +3,14 @@ use Rattle.std.specs.Prelude.{◌≡◌, refl, Bool, true, false, not, ◌&&◌,
 use Rattle.std.proofs.Common.{subst, sym, ap, ◌∙◌, add-zero, zero-add, arith, length-drop, drop-drop, lt-ltb, le-ltb, ltb-true, ltb-false, eq-eqb, ne_eqb}
 use Rattle.std.proofs.Math.Bool.{or-true}
 use Rattle.std.proofs.Math.Seq.{drop-nil}
-use Rattle.model.specs.Choice.{every}
+use Rattle.model.specs.Choice.{every, All}
 use Rattle.model.proofs.TestLaws.{and_left, and_right, and-true}
-use Rattle.model.specs.Choice.{All}
 use Rattle.model.specs.Accesses.{Access, Fits}
 use Rattle.model.specs.Trace.{number_after, number_at}
 use Rattle.model.specs.Convert.{trace_form, written}
-use Rattle.model.specs.Rescue.{stands, Move, skip, moves, Entry, kept, skipped, Place, beginning, range, kept_at, moved, entries}
+use Rattle.model.specs.Rescue.{stands, Move, skip, moves, Entry, kept, skipped, Place, beginning, range, kept_at, moved, entries, entries_from, sizes, kept_first}
 use Rattle.model.specs.RescueText.{accesses_of}
 use Rattle.model.proofs.ScanLaws.{stands_whole, scan_short, scan_kept, scan_skipped}
-use Rattle.model.specs.Rescue.{entries_from}
-use Rattle.model.specs.Rescue.{sizes}
-use Rattle.model.specs.Rescue.{kept_first}
 use Rattle.model.proofs.EntryLaws.{Walk, done, keeps, skips, walk, from_none, from_kept, from_skipped, range_by, start_of, length_of, Covers, ended, next, covers, standing_at}
 use Rattle.model.proofs.UndamagedLaws.{kept_records, undamaged_from, undamaged_kept, read_at, reads_from}
 

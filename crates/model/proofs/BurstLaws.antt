@@ -6,7 +6,7 @@ use Rattle.std.proofs.Common.{ap, sym, ◌∙◌, arith, lit<, le-ltb, lt-ltb, l
 use Rattle.std.proofs.Math.Seq.{drop-nil}
 use Rattle.std.proofs.Math.Dec.{leb-suc-suc, eqb-suc-zero}
 use Rattle.std.proofs.lemmas.Bool.{not-true, not-false}
-use Rattle.model.specs.Choice.{every}
+use Rattle.model.specs.Choice.{every, All}
 use Rattle.model.specs.Checks.{Check, ◌for◌, refusal, First, above, misplaced, shared_length}
 use Rattle.model.specs.Sides.{local, side_of, not_by}
 use Rattle.model.specs.Events.{bit}
@@ -14,17 +14,11 @@ use Rattle.model.specs.State.{World}
 use Rattle.model.specs.Runs.{Outcome, Entry, run}
 use Rattle.model.specs.Accesses.{Access, Answer, fit, access}
 use Rattle.model.specs.Pins.{lanes8, motorola_rows, lanes_of, Decoded, decode}
-use Rattle.model.specs.Bursts.{Phase, Way, reads, writes, Burst, advances, next, last_dword, single, singles_from, short, burst_checks, singles, Told, list_after, total, burst}
+use Rattle.model.specs.Bursts.{Phase, Way, reads, writes, Burst, advances, next, last_dword, single, singles_from, short, burst_checks, singles, Told, list_after, total, burst, value_in, left_by, done_entry, entries_from, shared_from}
 use Rattle.model.proofs.TestLaws.{no_both, every_get, if_case, or_right}
-use Rattle.model.specs.Choice.{All}
 use Rattle.model.proofs.CheckLaws.{Positive, passed_all, pass_refusal, refusal_append, first_given}
 use Rattle.model.proofs.LaneLaws.{length_write}
 use Rattle.model.proofs.KindLaws.{unfit_is}
-use Rattle.model.specs.Bursts.{value_in}
-use Rattle.model.specs.Bursts.{left_by}
-use Rattle.model.specs.Bursts.{done_entry}
-use Rattle.model.specs.Bursts.{entries_from}
-use Rattle.model.specs.Bursts.{shared_from}
 
 -- A SINGLE ACCESS
 

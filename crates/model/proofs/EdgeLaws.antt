@@ -3,9 +3,7 @@ use Rattle.std.specs.Prelude.{◌≡◌, refl, ◌↔◌, Bool, true, false, not
 use Rattle.std.proofs.Common.{ap, sym, ◌∙◌, arith, eqb-true}
 use Rattle.std.proofs.lemmas.Bool.{eqb-false, not-true, not-false}
 use Rattle.model.proofs.TestLaws.{no_both}
-use Rattle.model.specs.Why.{Reason, never, cleared_by, set_by}
-use Rattle.model.specs.Why.{turned}
-use Rattle.model.specs.Why.{is_up}
+use Rattle.model.specs.Why.{Reason, never, cleared_by, set_by, turned, is_up}
 
 -- `k` is the largest number below `n` with the property
 pub record Largest (n : ℕ) (P : ℕ → Type 0) (k : ℕ) : Type 0 where

@@ -10,10 +10,8 @@ use Rattle.model.specs.Accesses.{Access}
 use Rattle.model.specs.Trace.{record_bytes, next_number, number_at, access_at, recorded, read_record}
 use Rattle.model.proofs.TraceLaws.{recorded_is}
 use Rattle.model.proofs.ConvertLaws.{FromShorter, by_length}
-use Rattle.model.specs.Rescue.{stands, skip, scan, Entry, kept, skipped, Place, beginning, range, kept_at, moved, listed, after, entries}
+use Rattle.model.specs.Rescue.{stands, skip, scan, Entry, kept, skipped, Place, beginning, range, kept_at, moved, listed, after, entries, entries_from, kept_first}
 use Rattle.model.proofs.ScanLaws.{stands_whole, scan_kept, scan_skipped}
-use Rattle.model.specs.Rescue.{entries_from}
-use Rattle.model.specs.Rescue.{kept_first}
 
 -- THE WALK
 

@@ -13,12 +13,8 @@ use Rattle.model.proofs.TestLaws.{all_imply, and_left, and_right, if_case}
 use Rattle.model.specs.Choice.{All}
 use Rattle.model.proofs.Soundness.{stays_fit}
 use Rattle.model.proofs.FifoRuns.{is_done, succeeds, taken_out, done_of, four_fifos, one_accounted, reset_empties, first_of}
-use Rattle.model.specs.Why.{Holding, Reason, follows, noted_all, changes_by, history}
-use Rattle.model.specs.Why.{same, longer, shorter, emptied}
+use Rattle.model.specs.Why.{Holding, Reason, follows, noted_all, changes_by, history, same, longer, shorter, emptied, settled_by, Moved, held_by}
 use Rattle.model.proofs.ReasonLaws.{Live, live_step}
-use Rattle.model.specs.Why.{settled_by}
-use Rattle.model.specs.Why.{Moved}
-use Rattle.model.specs.Why.{held_by}
 
 -- the accepted puts (kind 6) to a FIFO, each with its number; `n` others stand in front
 abbrev pub puts_of : (fifo n : ℕ) → List (Entry Access Answer) → List Holding

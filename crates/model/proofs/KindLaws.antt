@@ -6,8 +6,7 @@ use Rattle.std.proofs.Math.ListN.{get_or-map}
 use Rattle.model.specs.Checks.{above}
 use Rattle.model.specs.State.{World}
 use Rattle.model.specs.Runs.{Outcome}
-use Rattle.model.specs.Accesses.{Access, Answer, Kind, unknown, kinds, kind_of, number_of, fit, access}
-use Rattle.model.specs.Accesses.{does}
+use Rattle.model.specs.Accesses.{Access, Answer, Kind, unknown, kinds, kind_of, number_of, fit, access, does}
 
 abbrev up_from : ℕ → ℕ → List ℕ
 up_from k zero = []

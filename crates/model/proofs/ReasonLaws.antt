@@ -21,13 +21,7 @@ use Rattle.model.proofs.TestLaws.{no_both, if_case}
 use Rattle.model.proofs.EventLaws.{no_bit, bit_insert, bit_without}
 use Rattle.model.proofs.InterruptLaws.{holds_entry, live_unstored}
 use Rattle.model.proofs.Refusals.{done_is, refused_is}
-use Rattle.model.specs.Why.{Reason, never, cleared_by, set_by, held, raise, clear, reset, put, take, follows, noted, noted_all, changes_by}
-use Rattle.model.specs.Why.{is_up}
-use Rattle.model.specs.Why.{held_by}
-use Rattle.model.specs.Why.{turned}
-use Rattle.model.specs.Why.{Moved, same, longer, shorter, emptied}
-use Rattle.model.specs.Why.{settled_by}
-use Rattle.model.specs.Why.{stored_bit}
+use Rattle.model.specs.Why.{Reason, never, cleared_by, set_by, held, raise, clear, reset, put, take, follows, noted, noted_all, changes_by, is_up, held_by, turned, Moved, same, longer, shorter, emptied, settled_by, stored_bit}
 
 -- whether it tells the entries held
 abbrev pub is_held : Reason → Bool

@@ -9,8 +9,7 @@ use Rattle.model.specs.Bench.{q, bench}
 use Rattle.model.specs.Trace.{record_bytes, Reading, recorded, refused, read_record}
 use Rattle.model.proofs.TraceLaws.{reads_first}
 use Rattle.model.specs.Text.{digits_within, decimal_text, line_text, end_text, refusal_text}
-use Rattle.model.specs.Replay.{Standing, Replayed, nothing_more, ◌and_then◌, answered, logged, replay_record, replay_records, records_in, replay, replay_start, whole_text, replay_text}
-use Rattle.model.specs.Replay.{replay_chunks}
+use Rattle.model.specs.Replay.{Standing, Replayed, nothing_more, ◌and_then◌, answered, logged, replay_record, replay_records, records_in, replay, replay_start, whole_text, replay_text, replay_chunks}
 
 -- RECORD BY RECORD
 

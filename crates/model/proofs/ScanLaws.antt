@@ -7,10 +7,7 @@ use Rattle.std.proofs.lemmas.Bool.{not-true}
 use Rattle.model.proofs.TestLaws.{and_left}
 use Rattle.model.proofs.TraceLaws.{number_first, access_first}
 use Rattle.model.proofs.ConvertLaws.{FromShorter, by_length}
-use Rattle.model.specs.Rescue.{stands, Move, keep, skip, scan, Place, moved, listed, after}
-use Rattle.model.specs.Rescue.{kept_first}
-use Rattle.model.specs.Rescue.{sizes}
-use Rattle.model.specs.Rescue.{entries_from}
+use Rattle.model.specs.Rescue.{stands, Move, keep, skip, scan, Place, moved, listed, after, kept_first, sizes, entries_from}
 
 -- WHAT STANDS
 

@@ -2,8 +2,7 @@
 use Rattle.std.specs.Prelude.{◌≡◌, refl, Bool, true, false, ◌&&◌, ◌||◌, List, [], ◌∷◌, ◌++◌, map, ℕ, zero, suc, get_or, set, if◌then◌else◌}
 use Rattle.std.proofs.Common.{ap, sym, arith}
 use Rattle.std.proofs.Math.Bool.{and_assoc}
-use Rattle.model.specs.Choice.{every, all_of}
-use Rattle.model.specs.Choice.{All}
+use Rattle.model.specs.Choice.{every, all_of, All}
 
 pub no_both : {X : Type 0} → ◌≡◌ {A = Bool} false true → X
 no_both h = absurd (let z : ◌≡◌ {A = ℕ} 0 1 = cc in omega arith)

@@ -9,8 +9,7 @@ use Rattle.std.proofs.Math.ListN.{drop}
 use Rattle.std.proofs.Math.Dec.{ltb}
 use borrow.Author.Tests.{eqb-true, eq-eqb, ne_eqb, lt-ltb, le-ltb, ltb-true, ltb-false}
 use Rattle.model.proofs.TestLaws.{no_both, and_left, and_right}
-use Rattle.model.specs.Text.{digit, digits_within, decimal_text, line_text, end_text, refusal_text, log_text, refused_line_text, field_text, is_digit, spelt, starts_with, Field, number, unreadable, read_field, read_decimal}
-use Rattle.model.specs.Text.{two_digits}
+use Rattle.model.specs.Text.{digit, digits_within, decimal_text, line_text, end_text, refusal_text, log_text, refused_line_text, field_text, is_digit, spelt, starts_with, Field, number, unreadable, read_field, read_decimal, two_digits}
 
 -- BY ITS TENTH
 

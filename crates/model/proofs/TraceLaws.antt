@@ -11,8 +11,7 @@ use Rattle.model.specs.Accesses.{Access, Fits}
 use Rattle.model.proofs.CheckLaws.{Ascending, smallest, passed}
 use Rattle.model.proofs.TestLaws.{and_left, and_right}
 use Rattle.model.proofs.LaneLaws.{Bytes, bytes_take, bytes_drop, bytes_dword, dword_below, dword_bytes}
-use Rattle.model.specs.Trace.{record_bytes, number_after, next_number, number_at, trace_checks, access_at, recorded, refused, read_record, next, unwritten, write_record}
-use Rattle.model.specs.Trace.{reading_number}
+use Rattle.model.specs.Trace.{record_bytes, number_after, next_number, number_at, trace_checks, access_at, recorded, refused, read_record, next, unwritten, write_record, reading_number}
 
 -- THE RECORD NUMBER
 

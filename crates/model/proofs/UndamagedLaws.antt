@@ -2,9 +2,8 @@
 use Rattle.std.specs.Prelude.{◌≡◌, refl, Bool, true, false, not, List, [], ◌∷◌, ◌++◌, ℕ, zero, suc, ◌+◌, ◌*◌, ◌≤◌, length, drop, eqb}
 use Rattle.std.proofs.Common.{sym, ap, ◌∙◌, add-zero, arith, eq-eqb, eqb-true}
 use Rattle.std.proofs.Math.Bool.{not-not}
-use Rattle.model.specs.Choice.{every}
+use Rattle.model.specs.Choice.{every, All}
 use Rattle.model.proofs.TestLaws.{no_both, and_left, and_right}
-use Rattle.model.specs.Choice.{All}
 use Rattle.model.proofs.LaneLaws.{Bytes, bytes_drop}
 use Rattle.model.specs.Accesses.{Access, Fits}
 use Rattle.model.specs.Trace.{record_bytes, number_after, number_at, access_at, recorded, read_record}
@@ -12,11 +11,9 @@ use Rattle.model.proofs.TraceLaws.{next_after, read_recorded, RecordStands, reco
 use Rattle.model.specs.Replay.{replay, replay_start}
 use Rattle.model.specs.Convert.{trace_form, written}
 use Rattle.model.proofs.ConvertLaws.{trace_and_back, trace_turned, as_replayed}
-use Rattle.model.specs.Rescue.{keep, skip, moves, Entry, kept, skipped, Place, beginning, range, kept_at, moved, entries}
+use Rattle.model.specs.Rescue.{keep, skip, moves, Entry, kept, skipped, Place, beginning, range, kept_at, moved, entries, entries_from, kept_first}
 use Rattle.model.specs.RescueText.{Tally, none, tallied, tally, accesses_of, rescued_trace}
 use Rattle.model.proofs.ScanLaws.{stands_whole, scan_short, scan_kept, scan_skipped}
-use Rattle.model.specs.Rescue.{entries_from}
-use Rattle.model.specs.Rescue.{kept_first}
 use Rattle.model.proofs.EntryLaws.{Walk, done, keeps, skips, walk, from_none, from_kept, from_skipped, range_by, further, length_of, Covers, ended, next, entries_cover, stands_read, recorded_stands, standing_at}
 
 -- T14.5: KEPT WHOLE

@@ -12,7 +12,7 @@ use Rattle.model.specs.State.{World, fresh_card}
 use Rattle.model.specs.InterruptRegisters.{register_read}
 use Rattle.model.specs.Interrupts.{register}
 use Rattle.model.specs.Runs.{run}
-use Rattle.model.specs.Accesses.{fit, access}
+use Rattle.model.specs.Accesses.{fit, access, does}
 use Rattle.model.specs.Bench.{q, bench}
 use Rattle.model.specs.Trace.{number_after}
 use Rattle.model.specs.Replay.{records_in, replay, replay_start}
@@ -20,18 +20,13 @@ use Rattle.model.proofs.TestLaws.{all_imply, all_map, all_behind, no_both, or_le
 use Rattle.model.specs.Choice.{All}
 use Rattle.model.proofs.CheckLaws.{Pass, Positive, passed_all, pass_refusal, first_given, first_positive}
 use Rattle.model.proofs.KindLaws.{kind_is}
-use Rattle.model.specs.Accesses.{does}
 use Rattle.model.proofs.EventLaws.{no_bit, bit_insert}
 use Rattle.model.proofs.InterruptLaws.{holds_entry, live_follows, stored_shows, value_bit}
 use Rattle.model.proofs.Soundness.{fit_parts, sound_parts_lem, register_sound_lem}
 use Rattle.model.proofs.FifoRuns.{four_fifos}
 use Rattle.model.proofs.HeldLaws.{puts_of, Rising, AcceptedPut, PutAt, held_puts, rising_behind, puts_rising, puts_made, one_for_both}
-use Rattle.model.specs.Why.{Holding, Reason, never, cleared_by, set_by, held, follows, history, accesses_in, reserved, why_checks, refused, because, answered_by, why}
+use Rattle.model.specs.Why.{Holding, Reason, never, cleared_by, set_by, held, follows, history, accesses_in, reserved, why_checks, refused, because, answered_by, why, stored_bit, turned, held_by, is_up}
 use Rattle.model.proofs.ReasonLaws.{is_held, down_none, Stored, Live, following, tells_up, stored_step, live_step}
-use Rattle.model.specs.Why.{stored_bit}
-use Rattle.model.specs.Why.{turned}
-use Rattle.model.specs.Why.{held_by}
-use Rattle.model.specs.Why.{is_up}
 use Rattle.model.proofs.EdgeLaws.{Largest, Explains, Turning, turning_explains, never_always, cleared_last, set_last, by_bits, turning_by_bits}
 use Rattle.model.proofs.WhyRuns.{card_at, record_at, reason_at, first_card, first_reason, next_card, next_reason, last_reason, cards_fit, bench_fit, runs_as_replay, access_is, accesses_records}
 

@@ -10,15 +10,11 @@ use Rattle.model.specs.Checks.{above}
 use Rattle.model.specs.Lanes.{dword_of}
 use Rattle.model.specs.Runs.{Entry}
 use Rattle.model.specs.Accesses.{Access, Answer, fit}
-use Rattle.model.specs.Bursts.{Phase, Way, reads, advances, next, last_dword, list_after}
+use Rattle.model.specs.Bursts.{Phase, Way, reads, advances, next, last_dword, list_after, shared_from, entries_from, left_by, value_in}
 use Rattle.model.specs.Pins.{decode}
 use Rattle.model.proofs.LaneLaws.{dword_bytes}
 use Rattle.model.proofs.TestLaws.{no_both, and_left, and_right, if_case}
 use Rattle.model.proofs.BurstLaws.{left_length}
-use Rattle.model.specs.Bursts.{shared_from}
-use Rattle.model.specs.Bursts.{entries_from}
-use Rattle.model.specs.Bursts.{left_by}
-use Rattle.model.specs.Bursts.{value_in}
 use Rattle.pins.specs.Laws.{carried_whole}
 use Rattle.phases.specs.Bridge.{phase_as, phases_as, pins_fit}
 

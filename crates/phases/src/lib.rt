@@ -4,11 +4,7 @@
 ghost use Rattle.std.specs.Prelude.{◌≡◌, true, ◌&&◌, ◌||◌, [], ◌≤◌, eqb, ltb, length, if◌then◌else◌};
 ghost use Rattle.model.specs.Checks.{refusal, above, shared_length};
 ghost use Rattle.model.specs.Pins.{decode};
-ghost use Rattle.model.specs.Bursts.{reads, writes, advances, next, last_dword, list_after};
-ghost use Rattle.model.specs.Bursts.{shared_from};
-ghost use Rattle.model.specs.Bursts.{entries_from};
-ghost use Rattle.model.specs.Bursts.{left_by};
-ghost use Rattle.model.specs.Bursts.{value_in};
+ghost use Rattle.model.specs.Bursts.{reads, writes, advances, next, last_dword, list_after, shared_from, entries_from, left_by, value_in};
 ghost use Rattle.pins.specs.Bridge.{decoded_as};
 ghost use Rattle.phases.specs.Bridge.{phase_as, phases_as, total_as, pins_fit, checks_of};
 

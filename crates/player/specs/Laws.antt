@@ -3,8 +3,7 @@ use Rattle.std.specs.Prelude.{◌≡◌, refl, false, List, ℕ, ◌+◌, ◌<�
 use Rattle.std.proofs.Common.{arith, length-drop, drop-drop}
 use Rattle.std.proofs.lemmas.List.Edits.{sets}
 use Rattle.model.specs.Accesses.{Access, access}
-use Rattle.model.specs.Trace.{recorded, refused, read_record}
-use Rattle.model.specs.Trace.{reading_number}
+use Rattle.model.specs.Trace.{recorded, refused, read_record, reading_number}
 use Rattle.model.specs.Text.{log_text, line_text}
 use Rattle.model.specs.Replay.{Standing, Replayed, nothing_more, ◌and_then◌, answered, logged, replay_record, replay}
 use Rattle.model.proofs.ReplayLaws.{replay_stopped, replay_none, replay_more}

@@ -5,21 +5,17 @@ use Rattle.std.proofs.Common.{sym, ap, ◌∙◌, subst, arith}
 use Rattle.std.proofs.Math.Bool.{true, false}
 use mathlib.Core.List.{List, [], ◌∷◌}
 use Rattle.std.proofs.Math.Dec.{eqb, eqb-suc-zero}
-use Rattle.model.specs.Choice.{every}
+use Rattle.model.specs.Choice.{every, All}
 use Rattle.model.specs.Checks.{◌for◌, refusal, above}
 use Rattle.model.specs.Transfer.{Request}
 use Rattle.model.specs.State.{World}
 use Rattle.model.specs.Runs.{run, entry_at}
 use Rattle.model.specs.Accesses.{Access, kind_of, fit, access}
-use Rattle.model.specs.Bursts.{Phase, Way, reads, writes, Burst, next, last_dword, single, singles_from, singles, burst_checks, total, burst}
+use Rattle.model.specs.Bursts.{Phase, Way, reads, writes, Burst, next, last_dword, single, singles_from, singles, burst_checks, total, burst, entries_from, done_entry, left_by}
 use Rattle.model.specs.Calls.{bursting}
 use Rattle.model.proofs.TestLaws.{and_left, and_right, every_append, if_case}
-use Rattle.model.specs.Choice.{All}
 use Rattle.model.proofs.Soundness.{stays_fit}
 use Rattle.model.proofs.BurstLaws.{run_is, burst_refusal, burst_keeps}
-use Rattle.model.specs.Bursts.{entries_from}
-use Rattle.model.specs.Bursts.{done_entry}
-use Rattle.model.specs.Bursts.{left_by}
 use Rattle.reordering.specs.Roles.{TransferAction, steps, none, open_after}
 use Rattle.reordering.specs.Reordering.{Touch, done_touches, touches, disturbs, quiet, action_of}
 use Rattle.reordering.specs.CallReordering.{counts_as, all_touches, noted, quiet_call}

@@ -9,7 +9,7 @@ use mathlib.Core.List.{List, [], ◌∷◌, ◌++◌, map, Permᴰ}
 use Prim.Native.Nat.{ℕ, zero, suc}
 use Rattle.std.proofs.Math.Dec.{eqb-suc-zero}
 use Rattle.std.proofs.lemmas.Bool.{not-false}
-use Rattle.model.specs.Choice.{every}
+use Rattle.model.specs.Choice.{every, All}
 use Rattle.model.specs.Checks.{Check, ◌for◌, refusal, above}
 use Rattle.model.specs.Sides.{Side, side_of, other, not_by}
 use Rattle.model.specs.Events.{bit}
@@ -26,7 +26,6 @@ use Rattle.model.specs.Registers.{RegisterAccess, plainly, flag_written, flags_w
 use Rattle.model.specs.Bursts.{Told}
 use Rattle.model.specs.Calls.{Call, direct, register, bursting, plain, call}
 use Rattle.model.proofs.TestLaws.{no_both, if_case}
-use Rattle.model.specs.Choice.{All}
 use Rattle.model.proofs.CheckLaws.{Pass}
 use Rattle.model.proofs.RegisterLaws.{register_passed, flag_same}
 use Rattle.model.proofs.BurstLaws.{burst_keeps}

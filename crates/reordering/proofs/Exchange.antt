@@ -5,7 +5,7 @@ use Rattle.std.proofs.Math.Path.{refl, sym, ap}
 use Rattle.std.proofs.Common.{◌∙◌, subst, inl, inr, arith, lt-ltb, eq-eqb, eqb-true}
 use mathlib.Core.List.{List, [], ◌∷◌, map, Permᴰ}
 use Rattle.std.proofs.lemmas.Bool.{eqb-false, not-false, not-true}
-use Rattle.model.specs.Choice.{every}
+use Rattle.model.specs.Choice.{every, All}
 use Rattle.model.specs.Checks.{◌for◌, refusal, above, nonzero}
 use Rattle.model.specs.Lanes.{lane_bytes}
 use Rattle.model.specs.Settings.{Settings, settings_pass}
@@ -16,7 +16,6 @@ use Rattle.model.specs.Steps.{stepped}
 use Rattle.model.specs.Runs.{Outcome, Entry, run, entry_at}
 use Rattle.model.specs.Accesses.{Access, Answer, Kind, kind_of, row_of, fit, checks, settled, access, number_of}
 use Rattle.model.proofs.TestLaws.{no_both, and_left, and_right, or_left, every_append, every_map, if_case}
-use Rattle.model.specs.Choice.{All}
 use Rattle.model.proofs.CheckLaws.{Pass, pass_refusal}
 use Rattle.model.proofs.LaneLaws.{Covers, lane_byte, covers_pci}
 use Rattle.model.proofs.KindLaws.{number_at, kind_at, refused_with}

@@ -4,7 +4,7 @@ use Rattle.std.specs.Prelude.{◌≡◌, Bool, not, ◌&&◌, ◌||◌, List, []
 use Rattle.std.proofs.Math.Path.{refl, sym, ap}
 use Rattle.std.proofs.Common.{◌∙◌, subst}
 use Rattle.std.proofs.Math.Bool.{true, false, or-true}
-use Rattle.model.specs.Choice.{every}
+use Rattle.model.specs.Choice.{every, All}
 use Rattle.model.specs.Transfer.{Request}
 use Rattle.model.specs.State.{World, fresh_world}
 use Rattle.model.specs.Runs.{Entry, run, entry_at}
@@ -12,7 +12,6 @@ use Rattle.model.specs.Accesses.{Access, Answer, fit, access}
 use Rattle.model.specs.Bursts.{Burst, singles, burst}
 use Rattle.model.specs.Calls.{Call, direct, register, bursting, plain, call}
 use Rattle.model.proofs.TestLaws.{and_left, and_right, and-true, every_append, every_map}
-use Rattle.model.specs.Choice.{All}
 use Rattle.model.proofs.BurstLaws.{unfit_run}
 use Rattle.reordering.specs.Roles.{none, Role, start_of, step_of, neither, entry_of, role_of, open_after, count_after, roles_from, steps_of}
 use Rattle.reordering.specs.Reordering.{action_of}

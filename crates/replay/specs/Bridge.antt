@@ -3,8 +3,7 @@
 use Rattle.std.specs.Prelude.{◌≡◌, Bool, true, false, List, ℕ, ◌+◌, length}
 use Rattle.std.proofs.lemmas.List.Edits.{sets}
 use Rattle.model.specs.Choice.{All}
-use Rattle.model.specs.Replay.{Standing, replay_start}
-use Rattle.model.specs.Replay.{replay_chunks}
+use Rattle.model.specs.Replay.{Standing, replay_start, replay_chunks}
 use Rattle.turn.specs.declared.Turn.{Turn}
 use Rattle.stream.specs.Bridge.{chunk_bytes}
 use Rattle.turn.specs.Bridge.{Turned, closing_text, fault_text}

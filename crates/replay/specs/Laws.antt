@@ -3,9 +3,8 @@ use Rattle.std.specs.Prelude.{◌≡◌, refl, true, false, ◌⊎◌, ℕ, ◌+
 use Rattle.std.proofs.Common.{ap, arith, length-append}
 use mathlib.Core.List.{List, [], ◌∷◌, ◌++◌, flatten}
 use Rattle.model.specs.Choice.{All}
-use Rattle.model.specs.Replay.{Standing, replay_start, replay_text, last_text}
+use Rattle.model.specs.Replay.{Standing, replay_start, replay_text, last_text, replay_chunks}
 use Rattle.model.proofs.ReplayLaws.{chunks_more, WholeRecords, chunked_text}
-use Rattle.model.specs.Replay.{replay_chunks}
 use Rattle.standing.specs.Bridge.{standing_as}
 use Rattle.stream.specs.Bridge.{chunk_bytes, broke_off}
 use Rattle.stream.specs.Laws.{end_is}

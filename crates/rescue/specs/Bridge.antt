@@ -1,8 +1,7 @@
 -- What contracts of rescue cite: what is found and answered, as the model's; how far a list is filled; and a trace half scanned.
 use Rattle.std.specs.Prelude.{◌≡◌, List, ◌++◌, ℕ, ◌+◌, ◌*◌, ◌/◌, ◌≤◌, length, take, drop, ltb}
 use Rattle.model.specs.Rescue as model
-use Rattle.model.specs.Rescue.{Entry, numbers_of, entries}
-use Rattle.model.specs.Rescue.{entries_from}
+use Rattle.model.specs.Rescue.{Entry, numbers_of, entries, entries_from}
 use Rattle.scan.specs.Bridge.{entry_as, place_as}
 use Rattle.rescue.specs.declared.Found.{Found}
 use Rattle.rescue.specs.declared.Found.TheVariants as code

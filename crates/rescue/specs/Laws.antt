@@ -12,11 +12,9 @@ use Rattle.std.proofs.lemmas.List.{take-append-le}
 use borrow.Author.Tests.{lt-ltb, le-ltb, ltb-true, ltb-false, eqb-true, eqb-false}
 use Rattle.model.proofs.TestLaws.{or_left, or_right}
 use Rattle.model.specs.Trace.{next_number, number_at}
-use Rattle.model.specs.Rescue.{Entry, Place, range, kept_at, moved, listed, after, scan, entry_numbers, numbers_of, entries, count, refused, rescue}
+use Rattle.model.specs.Rescue.{Entry, Place, range, kept_at, moved, listed, after, scan, entry_numbers, numbers_of, entries, count, refused, rescue, entries_from, kept_first}
 use Rattle.model.proofs.LentListLaws.{entry_three, numbers_length, numbers_append}
 use Rattle.model.proofs.ScanLaws.{entries_then}
-use Rattle.model.specs.Rescue.{entries_from}
-use Rattle.model.specs.Rescue.{kept_first}
 use Rattle.scan.specs.Bridge.{place_as, Ahead}
 use Rattle.scan.specs.Laws.{skips, behind, skips_listed, skips_after, up_to, record_listed, record_after, record_ahead}
 use Rattle.rescue.specs.declared.Filled.{Filled}

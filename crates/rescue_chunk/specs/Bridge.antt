@@ -3,10 +3,9 @@ use Rattle.std.specs.Prelude.{◌≡◌, List, [], ◌++◌, ℕ, ◌+◌, ◌*�
 use Rattle.model.specs.Trace.{record_bytes, number_after, number_at, access_at}
 use Rattle.model.specs.Convert.{trace_form, written}
 use Rattle.model.specs.Rescue as model
-use Rattle.model.specs.Rescue.{Move, scan, range, kept_at, listed, after}
+use Rattle.model.specs.Rescue.{Move, scan, range, kept_at, listed, after, sizes}
 use Rattle.model.specs.RescueText as told
 use Rattle.model.specs.RescueText.{entry_text, entry_lines, total_text, rescue_text, accesses_of, rescued_trace}
-use Rattle.model.specs.Rescue.{sizes}
 use Rattle.decimal.specs.Bridge.{Written}
 use Rattle.scan.specs.declared.Place.{Place}
 use Rattle.scan.specs.Bridge.{place_as}

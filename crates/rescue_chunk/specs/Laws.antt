@@ -4,11 +4,9 @@ use Rattle.std.proofs.Common.{sym, ap, ◌∙◌, append_assoc, append-nil, add-
 use Rattle.model.specs.Accesses.{Access}
 use Rattle.model.specs.Trace.{next_number, number_at}
 use Rattle.model.specs.Convert.{Form, trace_form, written}
-use Rattle.model.specs.Rescue.{Move, keep, skip, scan, Entry, kept, skipped, Place, range, kept_at, moved, listed, after, moves, beginning, entries}
+use Rattle.model.specs.Rescue.{Move, keep, skip, scan, Entry, kept, skipped, Place, range, kept_at, moved, listed, after, moves, beginning, entries, sizes, kept_first}
 use Rattle.model.specs.RescueText.{Tally, none, tallied, tally, entry_lines, accesses_of, rescue_text, rescued_trace}
 use Rattle.model.proofs.ScanLaws.{scan_short, listed_append, after_append}
-use Rattle.model.specs.Rescue.{sizes}
-use Rattle.model.specs.Rescue.{kept_first}
 use Rattle.decimal.specs.Bridge.{Written}
 use Rattle.decimal.specs.Laws.{then}
 use Rattle.scan.specs.declared.Place as code

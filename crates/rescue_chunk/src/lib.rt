@@ -2,9 +2,8 @@
 #![tactic(auto)]
 
 ghost use Rattle.std.specs.Prelude.{◌≡◌, List, [], ◌∷◌, ℕ, ◌+◌, ◌-◌, ◌*◌, ◌<◌, ◌≤◌, ◌^◌, length};
-ghost use Rattle.model.specs.Rescue.{range};
+ghost use Rattle.model.specs.Rescue.{range, kept_first};
 ghost use Rattle.model.specs.RescueText.{tally};
-ghost use Rattle.model.specs.Rescue.{kept_first};
 ghost use Rattle.decimal.specs.Bridge.{Written};
 ghost use Rattle.scan.specs.Bridge.{place_as};
 ghost use Rattle.entry_text.specs.Bridge.{tally_as};

@@ -3,9 +3,8 @@
 use Rattle.std.specs.Prelude.{◌≡◌, Bool, true, false, not, ◌||◌, ℕ, ◌+◌, ◌≤◌, length, take, drop, if◌then◌else◌}
 use mathlib.Core.List.{List, [], ◌++◌, flatten}
 use Rattle.std.proofs.lemmas.List.Edits.{sets}
-use Rattle.model.specs.Rescue.{Move, scan, moves, Place, beginning, listed, after}
+use Rattle.model.specs.Rescue.{Move, scan, moves, Place, beginning, listed, after, sizes}
 use Rattle.model.specs.RescueText.{Tally, none, tally}
-use Rattle.model.specs.Rescue.{sizes}
 use Rattle.report.specs.Bridge.{failed_text}
 use Rattle.stream.specs.Bridge.{chunk_bytes, least_of, goes_on, broke_off}
 use Rattle.scan.specs.Bridge.{place_as}

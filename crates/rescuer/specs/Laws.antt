@@ -5,10 +5,9 @@ use Rattle.std.proofs.Common.{sym, ap, ◌∙◌, inl, inr, zero-add, arith, len
 use mathlib.Core.List.{List, [], ◌∷◌, ◌++◌, flatten, append_assoc, append-nil}
 use Rattle.std.proofs.Math.Nat.{sub-zero}
 use Rattle.model.proofs.TestLaws.{or_right, no_both, if_case}
-use Rattle.model.specs.Rescue.{Move, scan, moves, beginning, listed, after}
+use Rattle.model.specs.Rescue.{Move, scan, moves, beginning, listed, after, sizes}
 use Rattle.model.specs.RescueText.{none, tally}
 use Rattle.model.proofs.ScanLaws.{listed_append, after_append, left_of, ahead}
-use Rattle.model.specs.Rescue.{sizes}
 use Rattle.decimal.specs.Laws.{text_there}
 use Rattle.stream.specs.declared.Chunk.{Chunk}
 use Rattle.stream.specs.Bridge.{Keeps, Reads, chunk_bytes, least_of, goes_on, broke_off}

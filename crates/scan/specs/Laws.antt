@@ -2,9 +2,8 @@
 use Rattle.std.specs.Prelude.{◌≡◌, refl, false, List, [], ◌∷◌, ◌++◌, ℕ, zero, suc, ◌+◌, ◌-◌, ◌≤◌, ◌<◌, length, drop, replicate}
 use Rattle.std.proofs.Common.{ap, ◌∙◌, append_assoc, append-nil, add-zero, arith, length-drop, drop-drop, lt-ltb}
 use Rattle.model.specs.Trace.{number_at}
-use Rattle.model.specs.Rescue.{stands, Move, skip, scan, Place, range, kept_at, moved, listed, after}
+use Rattle.model.specs.Rescue.{stands, Move, skip, scan, Place, range, kept_at, moved, listed, after, kept_first}
 use Rattle.model.proofs.ScanLaws.{stands_whole, scan_skipped, scan_kept, listed_append, after_append}
-use Rattle.model.specs.Rescue.{kept_first}
 use Rattle.scan.specs.Bridge.{Ahead}
 
 abbrev pub skips : (n : ℕ) → List Move

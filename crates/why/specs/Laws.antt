@@ -21,14 +21,9 @@ use Rattle.model.proofs.ReplayLaws.{replay_stopped, replay_none, replay_more}
 use Rattle.model.proofs.TestLaws.{and_left, or_left, or_right, if_case}
 use Rattle.model.proofs.EventLaws.{no_bit, bit_insert}
 use Rattle.model.proofs.Soundness.{sound_parts_lem, fit_parts, fifo_sound_lem, stays, stays_fit}
-use Rattle.model.specs.Why.{Reason, never, noted_all, changes_by, history, accesses_from, accesses_in, follows, reserved, places, because, why}
+use Rattle.model.specs.Why.{Reason, never, noted_all, changes_by, history, accesses_from, accesses_in, follows, reserved, places, because, why, same, stored_bit, Moved, held_by, is_up}
 use Rattle.model.specs.Why as model
-use Rattle.model.specs.Why.{same}
 use Rattle.model.proofs.ReasonLaws.{is_held, Stored, stored_step, Live, live_step}
-use Rattle.model.specs.Why.{stored_bit}
-use Rattle.model.specs.Why.{Moved}
-use Rattle.model.specs.Why.{held_by}
-use Rattle.model.specs.Why.{is_up}
 use Rattle.fifos.specs.Bridge.{fifos_as}
 use Rattle.fifos.specs.Laws.{length_entries}
 use Rattle.interrupts.specs.Bridge.{interrupts_as}
