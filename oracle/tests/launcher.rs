@@ -35,7 +35,8 @@ const CRATES: &str = "# the crates\nbase:\nother: base\nmiddle: base io\n\
                       rescue_list: middle io\nrescue_trace: middle base io\n\
                       why_program: middle io\n";
 
-/// Links a program where it finds no stamp, and runs it, as `rt run` does in the folder of a crate.
+/// Links a program where it finds no stamp, and runs it, as `rt run` does in the folder of a crate. The
+/// program's own input is what it must write.
 const RT: &str = r#"#!/bin/sh
 crate=${PWD##*/}
 echo "$@ $crate" >>../../calls
@@ -55,9 +56,8 @@ if [ ! -f out/$crate.stamp ] || [ ! -f out/$crate ]; then
     touch out/$crate.stamp
 fi
 echo "rt: running out/$crate; to give it other input, run that file yourself"
-out/$crate >&3
-echo 'what the program writes' >&3
-exit 2
+shift 2
+out/$crate "$@" >&3 3>&-
 "#;
 
 const BUILDING: &str = "replay: building the program, and proving every crate that it stands on; \
@@ -90,8 +90,10 @@ impl Repository {
             fs::create_dir_all(source).expect("a new folder");
             let main = format!("crates/{program}/src/main.rt");
             repository.folder.file(&main, b"");
-            let stdout = format!("crates/{program}/stdout");
-            repository.folder.file(&stdout, b"what it must write\n");
+            for part in ["stdin", "stdout"] {
+                let part = format!("crates/{program}/{part}");
+                repository.folder.file(&part, b"what it must write\n");
+            }
         }
         fs::create_dir(repository.path("tools")).expect("a new folder");
         repository.folder.file("crates.txt", CRATES.as_bytes());
@@ -135,6 +137,9 @@ impl Repository {
     fn with_why() -> Repository {
         let repository = Repository::with_rt(&RT.replace("exec cat", "echo \"$@\"\\nexec cat"));
         repository.copy("why");
+        repository.folder.file("crates/why_program/args", b"1\n6\n");
+        let wrote = b"1 6\nwhat it must write\n";
+        repository.folder.file("crates/why_program/stdout", wrote);
         repository
     }
 
@@ -179,10 +184,10 @@ impl Repository {
         let repository = Repository::with_rt(RT);
         let out = repository.path("crates/replay/out");
         fs::create_dir(out).expect("a new folder");
-        repository.folder.file("crates/replay/out/stdout", wrote);
         let program = b"#!/bin/sh\nexec cat\n";
         let program = repository.folder.file("crates/replay/out/replay", program);
         fs::set_permissions(program, fs::Permissions::from_mode(0o755)).expect("our own file");
+        repository.folder.file("crates/replay/out/stdout", wrote);
         repository
     }
 }
@@ -208,7 +213,7 @@ fn what_is_missing_is_built_once() {
     let repository = Repository::with_rt(RT);
     is_built_and_run(&repository.start());
     is_run(&repository.start());
-    assert_eq!(repository.calls(), "run replay\n");
+    assert_eq!(repository.calls(), "run -- replay\n");
 }
 
 #[test]
@@ -223,7 +228,7 @@ fn what_is_old_is_built_once_more() {
 #[test]
 fn what_was_not_run_or_was_removed_is_built_again() {
     let repository = Repository::with_rt(RT);
-    for part in ["out/replay.stamp", "out/replay", "out"] {
+    for part in ["out/stdout", "out/replay", "out"] {
         is_built_and_run(&repository.start());
         let part = repository.path("crates/replay").join(part);
         let removed = if part.is_dir() {
@@ -247,7 +252,11 @@ fn what_is_made_of_a_newer_file_is_old() {
         let later = SystemTime::now() + Duration::from_secs(60);
         repository.set_modified(part, later);
         repository.start();
-        assert_eq!(repository.calls(), "run replay\nrun replay\n", "{part}");
+        assert_eq!(
+            repository.calls(),
+            "run -- replay\nrun -- replay\n",
+            "{part}"
+        );
     }
 }
 
@@ -264,7 +273,7 @@ fn what_rt_makes_is_no_source() {
         repository.set_modified(name, later);
     }
     is_run(&repository.start());
-    assert_eq!(repository.calls(), "run replay\n");
+    assert_eq!(repository.calls(), "run -- replay\n");
 }
 
 #[test]
@@ -274,14 +283,14 @@ fn what_the_gate_ran_well_is_not_built_again() {
     assert_eq!(repository.calls(), "");
     repository.make_old();
     is_built_and_run(&repository.start());
-    assert_eq!(repository.calls(), "run replay\n");
+    assert_eq!(repository.calls(), "run -- replay\n");
 }
 
 #[test]
 fn what_the_gate_ran_and_found_wrong_is_built_again() {
     let repository = Repository::with_checked(b"what it must not write\n");
     is_built_and_run(&repository.start());
-    assert_eq!(repository.calls(), "run replay\n");
+    assert_eq!(repository.calls(), "run -- replay\n");
 }
 
 #[test]
@@ -293,7 +302,7 @@ fn a_dash_in_a_name_is_an_underscore_in_its_crate() {
         let to_trace = repository.command(repository.path("to-trace"));
         fed(to_trace, INPUT).is(INPUT, told, 0);
     }
-    assert_eq!(repository.calls(), "run to_trace\n");
+    assert_eq!(repository.calls(), "run -- to_trace\n");
 }
 
 #[test]
@@ -310,7 +319,10 @@ fn an_option_chooses_the_crate() {
         let words = [options, &[file]].concat();
         is_run(&run(repository.rescue(&words)));
     }
-    assert_eq!(repository.calls(), "run rescue_list\nrun rescue_trace\n");
+    assert_eq!(
+        repository.calls(),
+        "run -- rescue_list\nrun -- rescue_trace\n"
+    );
 }
 
 #[test]
@@ -352,7 +364,7 @@ fn side_and_position_go_to_the_program() {
     let out = [b"18446744073709551616 10\n", INPUT].concat();
     let words = [file, "18446744073709551616", "10"];
     run(repository.why(&words)).is(&out, "", 0);
-    assert_eq!(repository.calls(), "run why_program\n");
+    assert_eq!(repository.calls(), "run -- 1 6 why_program\n");
 }
 
 #[test]
@@ -384,6 +396,7 @@ fn the_usage_of_the_program_is_that_of_the_launcher() {
     let tells = format!("echo {} >&2", USAGE.trim_end());
     let repository = Repository::with_rt(&RT.replace("exec cat", &tells));
     repository.copy("why");
+    repository.folder.file("crates/why_program/stdout", b"");
     let file = repository.folder.file("capture.bin", INPUT);
     let file = file.to_str().expect("a name of letters");
     // the first one may build it
@@ -404,6 +417,19 @@ fn a_failed_build_is_told_and_nothing_is_run() {
             .start()
             .is(b"", &format!("{BUILDING}{last}{told}"), 1);
     }
+}
+
+/// A program may be proved and still not be run right: its reading and writing are in no promise.
+#[test]
+fn what_writes_something_else_in_its_own_run_is_not_started() {
+    let repository = Repository::with_rt(RT);
+    let stdout = b"something else\n";
+    repository.folder.file("crates/replay/stdout", stdout);
+    for _ in 0..2 {
+        let ended = repository.start();
+        assert_eq!((ended.status, &ended.out[..]), (1, &b""[..]));
+    }
+    assert_eq!(repository.calls(), "run -- replay\n".repeat(2));
 }
 
 /// `rt` leaves the program of an earlier build, and its stamp, where a library is no longer proved.
@@ -455,7 +481,10 @@ fn a_missing_kit_is_told() {
 
 #[test]
 fn the_program_gets_the_standard_three_and_nothing_else() {
-    let repository = Repository::with_rt(&RT.replace("cat", "ls /proc/self/fd"));
+    // its own run has what the launcher and rt hold too
+    let own_run = "out/$crate \"$@\" >&3 3>&-";
+    let rt = RT.replace("cat", "ls /proc/self/fd");
+    let repository = Repository::with_rt(&rt.replace(own_run, "cat stdout >&3"));
     let mut alone = command("ls");
     alone.arg("/proc/self/fd");
     let alone = run(alone).out;
@@ -517,18 +546,18 @@ fn of_two_that_start_together_one_builds() {
     for child in [first, second] {
         Ended::of(child).is(b"", "", 0);
     }
-    assert_eq!(repository.calls(), "run replay\n");
+    assert_eq!(repository.calls(), "run -- replay\n");
 }
 
 #[test]
 fn two_programs_of_a_pipeline_are_built_one_after_the_other() {
-    let repository = Repository::with_rt(&RT.replace("exit 2", "echo built >>../../calls"));
+    let repository = Repository::with_rt(&format!("{RT}echo built >>../../calls\n"));
     let mut pipeline = repository.command("bash");
     pipeline.args(["-c", "set -o pipefail; \"$0\" | \"$1\""]);
     pipeline.args([repository.path("replay"), repository.path("to-trace")]);
     let ended = fed(pipeline, INPUT);
     assert_eq!((ended.out.as_slice(), ended.status), (INPUT, 0));
-    let (one, other) = ("run replay\nbuilt\n", "run to_trace\nbuilt\n");
+    let (one, other) = ("run -- replay\nbuilt\n", "run -- to_trace\nbuilt\n");
     let calls = repository.calls();
     assert!(calls == [one, other].concat() || calls == [other, one].concat());
 }

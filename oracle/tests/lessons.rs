@@ -102,7 +102,8 @@ fn the_tables_are_the_lists_and_the_answers() {
         ends(&document),
     );
     let (mut sound, damaged) = traces();
-    sound.retain(|name| has_lesson(&document, name));
+    // the lesson of a trace that is not told yet
+    sound.retain(|name| name != LINE_UP || has_lesson(&document, name));
     let is_damaged = |name: &str| damaged.iter().any(|damaged| damaged == name);
     let named: BTreeSet<&str> = names
         .iter()
