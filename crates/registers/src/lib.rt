@@ -31,7 +31,8 @@ pub fn register_access(
         return card.refused(access::UNKNOWN);
     }
     let x = register_map::resource_at(offset);
-    if !x.is_modelled() {
+    let modelled = x.is_modelled();
+    if !modelled {
         return card.refused(access::UNMODELLED);
     }
     match direction {

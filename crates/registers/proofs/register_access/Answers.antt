@@ -36,10 +36,10 @@ pub returns-then-side-gt1-clause-window_after : goal.returns-then-side-gt1-claus
 returns-then-side-gt1-clause-window_after c =
     (side_arm c.args.card _ _ _ _ _ _ _ (fit_by _ _ _ c.fits.ensures c.if-not-fits.false) (lt-ltb 1 _ c.if-side-gt1.true) c.refused-then-side-gt1.ensures).0
 
-pub returns-then-not-is_modelled-clause-window_after : goal.returns-then-not-is_modelled-clause-window_after
-returns-then-not-is_modelled-clause-window_after c =
+pub returns-then-not-modelled-clause-window_after : goal.returns-then-not-modelled-clause-window_after
+returns-then-not-modelled-clause-window_after c =
     (offset_arm c.args.card _ _ _ _ _ _ _ (fit_by _ _ _ c.fits.ensures c.if-not-fits.false) (le-ltb 1 _ c.if-side-gt1.false) c.resource_at-x.ensures
-    (sym c.is_modelled.ensures ∙ c.if-not-is_modelled.true) c.refused-then-not-is_modelled.ensures).0
+    (sym c.is_modelled-modelled.ensures ∙ c.if-not-modelled.true) c.refused-then-not-modelled.ensures).0
 
 pub read_at-requires-clause-card_value : goal.read_at-requires-clause-card_value
 read_at-requires-clause-card_value c = (parts _ _ _ c.fits.ensures c.if-not-fits.false).sound
@@ -54,15 +54,15 @@ pub returns-in-0 : goal.returns-in-0
 returns-in-0 c =
     promised _ _ _
     (read_arm c.args.card c.args.side c.args.offset c.args.direction c.args.dword _ _ _ (fit_by _ _ _ c.fits.ensures c.if-not-fits.false) (le-ltb 1 _ c.if-side-gt1.false) c.resource_at-x.ensures
-    (sym c.is_modelled.ensures ∙ c.if-not-is_modelled.false) c.in-0.is (c.read_at.ensures _))
+    (sym c.is_modelled-modelled.ensures ∙ c.if-not-modelled.false) c.in-0.is (c.read_at.ensures _))
 
 pub returns-in-1 : goal.returns-in-1
 returns-in-1 c =
     promised _ _ _
     (write_arm c.args.card c.args.side c.args.offset c.args.direction c.args.dword _ _ _ (fit_by _ _ _ c.fits.ensures c.if-not-fits.false) (le-ltb 1 _ c.if-side-gt1.false) c.resource_at-x.ensures
-    (sym c.is_modelled.ensures ∙ c.if-not-is_modelled.false) c.in-1.is (c.write_at.ensures _))
+    (sym c.is_modelled-modelled.ensures ∙ c.if-not-modelled.false) c.in-1.is (c.write_at.ensures _))
 
 pub returns-in-2-to-255-clause-window_after : goal.returns-in-2-to-255-clause-window_after
 returns-in-2-to-255-clause-window_after c =
     (direction_arm c.args.card c.args.side c.args.offset c.args.direction c.args.dword _ _ _ (fit_by _ _ _ c.fits.ensures c.if-not-fits.false) (le-ltb 1 _ c.if-side-gt1.false) c.resource_at-x.ensures
-    (sym c.is_modelled.ensures ∙ c.if-not-is_modelled.false) (λ e. omega arith) (λ e. omega arith) c.refused-in-2-to-255.ensures).0
+    (sym c.is_modelled-modelled.ensures ∙ c.if-not-modelled.false) (λ e. omega arith) (λ e. omega arith) c.refused-in-2-to-255.ensures).0
