@@ -1,10 +1,15 @@
--- What contracts of testing cite: digests, as the test programs write them.
-use Rattle.std.specs.Prelude.{List, [], ◌∷◌, ℕ, ◌+◌, ◌*◌, ◌%◌}
+-- What contracts of testing cite: cases answered in turn, and digests, as the test programs write them.
+use Rattle.std.specs.Prelude.{◌≡◌, List, ℕ, zero, suc, ◌+◌, ◌*◌, ◌%◌, Bool, true, false, ◌⊎◌}
+use Rattle.std.specs.List.{fold}
+
+-- calls of a closure that says whether there was a case: at most so many, and none behind one that says there was none
+unfoldable pub AnswersInTurn : {F : Type 0} → (F → Bool → F → Type 0) → (turns : ℕ) → F → F → Type 0
+AnswersInTurn step zero f last = f ≡ last
+AnswersInTurn step (suc n) f last = step f false last ⊎ ((next : _) × step f true next × AnswersInTurn step n next last)
 
 -- a digest with one number more
 abbrev pub with_number : (digest number : ℕ) → ℕ
 with_number d n = (d % 4294967296 * 16777619 + n) % 4294967296
 
 abbrev pub digest_from : (digest : ℕ) → List ℕ → ℕ
-digest_from d [] = d
-digest_from d (n ∷ ns) = digest_from (with_number d n) ns
+digest_from = fold with_number

@@ -1,24 +1,46 @@
-// What the test programs share: bytes of a case read from standard input, numbers of a case, digests, numbers written to standard output.
+// What the test programs share: cases read from standard input one after the other, numbers of a case, digests, numbers written to standard output.
 // No contract can say what is read or written.
 #![tactic(auto)]
 
 ghost use Rattle.std.specs.Prelude.{◌≡◌, ◌+◌, ◌*◌, ltb, length, if◌then◌else◌};
 ghost use Rattle.model.specs.Lanes.{read_dword};
-ghost use Rattle.testing.specs.Bridge.{with_number, digest_from};
+ghost use Rattle.testing.specs.Bridge.{AnswersInTurn, with_number, digest_from};
 
 // Nothing says that an input ends, so a program counts its turns: more than it has cases.
 pub const TURNS: u32 = 1000000;
+
+// Answers case after case, until one says that there was none any more.
+pub fn each_case<F: FnMut() -> bool>(mut answer: F)
+    requires { F.IsAlwaysCallable answer }
+    ensures { (last : F) × AnswersInTurn F.step TURNS answer last }
+{
+    for _ in 0..TURNS {
+        if !answer() {
+            break;
+        }
+    }
+}
 
 // Fills the bytes from the input; false where the input ends before they are full.
 pub fn read_bytes(bytes: &mut [u8]) -> bool {
     io::read_full(0, bytes) == bytes.len()
 }
 
+// The next bytes of the input; none where it ends before they are full.
+pub fn read_case<const N: usize>() -> Option<[u8; N]> {
+    let mut bytes = [0; N];
+    if io::read_full(0, &mut bytes) == N {
+        Some(bytes)
+    } else {
+        None
+    }
+}
+
 // The number with this place in a list of numbers of four bytes, least byte first; 0 behind its end.
 pub fn number_at(bytes: &[u8], place: u8) -> u32
     ensures { result ≡ (if ltb (length bytes.now) (4 * place + 4) then 0 else read_dword bytes.now (4 * place) 0) }
 {
-    let at = 4 * (place as usize);
+    let at = 4 * usize::from(place);
     if bytes.len() < at + 4 {
         return 0;
     }
@@ -29,30 +51,19 @@ pub fn number_at(bytes: &[u8], place: u8) -> u32
 pub fn with_number(digest: u64, number: u32) -> u64
     ensures { result ≡ with_number digest number }
 {
-    (digest % 4294967296 * 16777619 + number as u64) % 4294967296
-}
-
-fn with_byte(digest: u64, byte: u8) -> u64
-    ensures { result ≡ with_number digest byte }
-{
-    with_number(digest, byte as u32)
+    (digest % 4294967296 * 16777619 + u64::from(number)) % 4294967296
 }
 
 pub fn digest(bytes: &[u8]) -> u64
     ensures { result ≡ digest_from 0 bytes.now }
 {
-    let mut sum = 0;
-    let mut i = 0;
-    while i < bytes.len() {
-        sum = with_byte(sum, bytes[i]);
-        i += 1;
-    }
-    sum
+    bytes
+        .iter()
+        .fold(0, |sum, byte| with_number(sum, u32::from(*byte)))
 }
 
 // A number, and the byte after it.
 pub fn show(n: u64, after: u8) {
-    let last = [after];
     io::print_decimal(1, n);
-    io::write_all(1, &last);
+    io::write_all(1, &[after]);
 }
