@@ -23,7 +23,7 @@ use std::path::{Path, PathBuf};
 const MAP: &str = "docs/ARCHITECTURE.md";
 const PROMISES: &str = "docs/PROMISES.md";
 /// They tell of the past, of names that are gone too.
-const PAST: [&str; 2] = ["docs/CHANGES.md", "docs/PORT.md"];
+const PAST: [&str; 3] = ["docs/CHANGES.md", "docs/DESIGN-PASS.md", "docs/PORT.md"];
 
 /// Names that stand for any name, where a document says how it cites.
 const PLACEHOLDERS: [&str; 6] = [
@@ -171,12 +171,16 @@ fn code_names(text: &str) -> Names {
             .collect();
         let at_margin = !line.starts_with([' ', '}', '/']);
         match (words.as_slice(), at_margin, &owner) {
-            (["impl", name, ..], true, _) => owner = Some(name.to_string()),
+            (["impl", name, rest @ ..], true, _) => {
+                // of a trait's implementation, the type that it is for
+                let of = rest.iter().skip_while(|word| **word != "for").nth(1);
+                owner = Some(of.unwrap_or(name).to_string());
+            }
             (["struct" | "enum", name, ..], true, _) => {
                 names.insert(name.to_string());
                 owner = Some(name.to_string());
             }
-            (["fn" | "const", name, ..], true, _) => {
+            (["fn" | "const" | "type", name, ..], true, _) => {
                 names.insert(name.to_string());
                 owner = None;
             }
