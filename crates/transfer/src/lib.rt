@@ -7,9 +7,9 @@ ghost use Rattle.model.specs.Transfer.{idle, request_checks, is_idle, transfer_s
 ghost use Rattle.access.specs.Bridge.{refusal_as};
 ghost use Rattle.transfer.specs.Bridge.{request_as, transfer_as};
 
-// What a start asks for: S, A, B and C.
 use access::Refusal;
 
+// What a start asks for: S, A, B and C.
 #[derive(Clone, Copy)]
 pub struct Request {
     pub direction: u8,
