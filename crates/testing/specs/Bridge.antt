@@ -1,11 +1,16 @@
--- What contracts of testing cite: cases answered in turn, and digests, as the test programs write them.
-use Rattle.std.specs.Prelude.{◌≡◌, List, ℕ, zero, suc, ◌+◌, ◌*◌, ◌%◌, Bool, true, false, ◌⊎◌}
+-- What contracts of testing cite: cases answered in turn, their numbers, and digests, as the test programs write them.
+use Rattle.std.specs.Prelude.{◌≡◌, List, ℕ, zero, suc, ◌+◌, ◌*◌, ◌%◌, Bool, true, false, ltb, length, if◌then◌else◌, ◌⊎◌}
 use Rattle.std.specs.List.{fold}
+use Rattle.model.specs.Lanes.{read_dword}
 
 -- calls of a closure that says whether there was a case: at most so many, and none behind one that says there was none
 unfoldable pub AnswersInTurn : {F : Type 0} → (F → Bool → F → Type 0) → (turns : ℕ) → F → F → Type 0
 AnswersInTurn step zero f last = f ≡ last
 AnswersInTurn step (suc n) f last = step f false last ⊎ ((next : _) × step f true next × AnswersInTurn step n next last)
+
+-- the number with this place among numbers of four bytes, least byte first; 0 behind their end
+abbrev pub number_at : List ℕ → (place : ℕ) → ℕ
+number_at bytes place = if ltb (length bytes) (4 * place + 4) then 0 else read_dword bytes (4 * place) 0
 
 -- a digest with one number more
 abbrev pub with_number : (digest number : ℕ) → ℕ

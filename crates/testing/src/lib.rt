@@ -2,9 +2,8 @@
 // No contract can say what is read or written.
 #![tactic(auto)]
 
-ghost use Rattle.std.specs.Prelude.{◌≡◌, ◌+◌, ◌*◌, ltb, length, if◌then◌else◌};
-ghost use Rattle.model.specs.Lanes.{read_dword};
-ghost use Rattle.testing.specs.Bridge.{AnswersInTurn, with_number, digest_from};
+ghost use Rattle.std.specs.Prelude.{◌≡◌, slice_index, EachIndex};
+ghost use Rattle.testing.specs.Bridge.{AnswersInTurn, number_at, with_number, digest_from};
 
 // Nothing says that an input ends, so a program counts its turns: more than it has cases.
 pub const TURNS: u32 = 1000000;
@@ -36,15 +35,38 @@ pub fn read_case<const N: usize>() -> Option<[u8; N]> {
     }
 }
 
-// The number with this place in a list of numbers of four bytes, least byte first; 0 behind its end.
-pub fn number_at(bytes: &[u8], place: u8) -> u32
-    ensures { result ≡ (if ltb (length bytes.now) (4 * place + 4) then 0 else read_dword bytes.now (4 * place) 0) }
+// The next bytes of the input, and zeros from where it ends.
+pub fn read_padded<const N: usize>() -> [u8; N] {
+    let mut bytes = [0; N];
+    io::read_full(0, &mut bytes);
+    bytes
+}
+
+fn number(bytes: &[u8], place: usize) -> u32
+    ensures { result ≡ number_at bytes.now place }
 {
-    let at = 4 * usize::from(place);
-    if bytes.len() < at + 4 {
+    if bytes.len() / 4 <= place {
         return 0;
     }
-    lanes::read_dword(bytes, at, lanes::ALL_LANES)
+    lanes::read_dword(bytes, 4 * place, lanes::ALL_LANES)
+}
+
+// The number with this place in a list of numbers of four bytes, least byte first; 0 behind its end.
+pub fn number_at(bytes: &[u8], place: u8) -> u32
+    ensures { result ≡ number_at bytes.now place }
+{
+    number(bytes, usize::from(place))
+}
+
+// The first numbers of such a list.
+pub fn numbers<const N: usize>(bytes: &[u8]) -> [u32; N]
+    ensures { EachIndex result (λ k. slice_index result k ≡ number_at bytes.now k) }
+{
+    let mut all = [0; N];
+    for (i, each) in all.iter_mut().enumerate() {
+        *each = number(bytes, i);
+    }
+    all
 }
 
 // A digest with one number more, and the digest of bytes.
@@ -66,4 +88,14 @@ pub fn digest(bytes: &[u8]) -> u64
 pub fn show(n: u64, after: u8) {
     io::print_decimal(1, n);
     io::write_all(1, &[after]);
+}
+
+// Numbers as a line.
+pub fn show_line(numbers: &[u64]) {
+    if let Some((last, before)) = numbers.split_last() {
+        for n in before {
+            show(*n, b' ');
+        }
+        show(*last, b'\n');
+    }
 }
