@@ -21,15 +21,17 @@ pub enum Output {
 
 // ONE RECORD
 
+#[tactic(auto, unfolding(model::specs::RescueText::tally))]
 fn tally_range(t: Tally, place: Place) -> Tally
     requires small { Small place t }
     requires run_bound { place.from + place.run + 20 < 2 ^ 64 }
     ensures { tally_as result ≡ tally (tally_as t) (range (place_as place)) }
 {
     if place.run == 0 {
-        return t;
+        t
+    } else {
+        t.with(place.range())
     }
-    t.with(place.range())
 }
 
 fn write_range(output: Output, place: Place, out: &mut [u8], end: usize) -> usize
@@ -67,7 +69,7 @@ fn write_kept(
         }
         Output::Records => {
             // There is room, so it answers the next number, which the count gives too.
-            trace::write_record(
+            let _ = trace::write_record(
                 convert::number_after(count),
                 trace::access_of(bytes),
                 &mut out[end..],
@@ -95,19 +97,15 @@ fn write_found(output: Output, bytes: &[u8], out: &mut [u8], s: Rescued) -> Resc
     ensures wrote { Wrote output (kept_first bytes.now ∷ []) s out.old result out.new }
     ensures further { Further s result }
 {
-    let place = s.place;
-    let before = s.tally;
+    let ranged = tally_range(s.tally, s.place);
+    let middle = write_range(output, s.place, out, s.end);
+    let end = write_kept(output, s.place, ranged.kept, bytes, out, middle);
     let number = trace::record_number(bytes);
-    let ranged = tally_range(before, place);
-    let middle = write_range(output, place, out, s.end);
-    let end = write_kept(output, place, ranged.kept, bytes, out, middle);
-    let tally = ranged.with(place.kept(number));
-    let behind = place.keep(number);
     Rescued {
         at: s.at + 20,
-        end: end,
-        place: behind,
-        tally: tally,
+        end,
+        place: s.place.keep(number),
+        tally: ranged.with(s.place.kept(number)),
     }
 }
 
@@ -119,7 +117,7 @@ fn places(size: usize, least: usize) -> usize
     ensures value { result ≡ size + 1 - least }
     ensures upper_bound { result ≤ size }
 {
-    if size < least { 0 } else { size - least + 1 }
+    size.saturating_sub(least - 1)
 }
 
 // Goes on to the next record and writes it, or to the last place that is looked at.
@@ -132,13 +130,10 @@ fn write_next(output: Output, input: &[u8], to: usize, out: &mut [u8], s: Rescue
     ensures further { Further s result × (result.at ≤ length input.now) }
 {
     let next = scan::next_record(input, s.at, to);
-    let place = s.place.skip(next - s.at);
-    let tally = s.tally;
     let skipped = Rescued {
         at: next,
-        end: s.end,
-        place: place,
-        tally: tally,
+        place: s.place.skip(next - s.at),
+        ..s
     };
     if next == to {
         return skipped;
@@ -165,8 +160,8 @@ pub fn rescue_chunk(
     let mut s = Rescued {
         at: 0,
         end: 0,
-        place: place,
-        tally: tally,
+        place,
+        tally,
     };
     while s.at < to {
         s = write_next(output, input, to, out, s);
