@@ -41,14 +41,13 @@ impl Mailboxes {
         if side == access::HOST {
             Mailboxes {
                 hldata: word,
-                lhdata: self.lhdata,
-                lhwritten: self.lhwritten,
+                ..self
             }
         } else {
             Mailboxes {
-                hldata: self.hldata,
                 lhdata: word,
                 lhwritten: true,
+                ..self
             }
         }
     }
@@ -68,14 +67,11 @@ impl Mailboxes {
     pub fn label(self, side: u8) -> u32
         ensures { result ≡ label_for (side_of side) (mailboxes_as self) }
     {
-        if side != access::HOST {
-            return 0;
+        if side == access::HOST && self.lhwritten {
+            let index = BayIndex::from((self.lhdata % 256) as u8);
+            u8::from(bays::label(index)) as u32
+        } else {
+            0
         }
-        if self.lhwritten {
-            let index = self.lhdata % 256;
-            let label = bays::label(BayIndex::of_byte(index as u8));
-            return label.number() as u32;
-        }
-        0
     }
 }
