@@ -2,7 +2,6 @@
 #![tactic(auto)]
 
 use pins::Decoded;
-use testing::show;
 
 // Reads a case and writes its number, lanes and dword; false where the input ends.
 fn run_case() -> bool {
@@ -14,9 +13,11 @@ fn run_case() -> bool {
         Ok(decoded) => (0, decoded),
         Err(refusal) => (refusal.number(), Decoded::refused()),
     };
-    show(u64::from(number), b' ');
-    show(u64::from(decoded.lanes), b' ');
-    show(u64::from(decoded.dword), b'\n');
+    testing::show_line(&[
+        u64::from(number),
+        u64::from(decoded.lanes),
+        u64::from(decoded.dword),
+    ]);
     true
 }
 
