@@ -12,7 +12,7 @@ ghost use Rattle.rescue_chunk.specs.Bridge.{range_text, kept_text, last_text, Sm
 use entry_text::Tally;
 use scan::Place;
 
-// What is written of a trace: "a line an entry", or "the kept records anew as a trace numbered from 0".
+// What is written of a trace: "a line an entry", or "the kept records anew as a trace numbered from 0". The caller of `rescue_chunk` says which at run time.
 #[derive(Clone, Copy)]
 pub enum Output {
     Entries,
@@ -34,6 +34,7 @@ fn tally_range(t: Tally, place: Place) -> Tally
     }
 }
 
+#[tactic(auto, using(crate::specs::Laws::no_range), unfolding(model::specs::RescueText::entry_lines))]
 fn write_range(output: Output, place: Place, out: &mut [u8], end: usize) -> usize
     requires { end + 51 ≤ length out.old }
     ensures written { Written out.old end (range_text output (place_as place)) result out.new }
@@ -48,37 +49,6 @@ fn write_range(output: Output, place: Place, out: &mut [u8], end: usize) -> usiz
     }
 }
 
-fn write_kept(
-    output: Output,
-    place: Place,
-    count: u64,
-    bytes: &[u8],
-    out: &mut [u8],
-    end: usize,
-) -> usize
-    requires in_bounds { 20 ≤ length bytes.now }
-    requires run_bound { place.from + place.run < 2 ^ 64 }
-    requires end_in_bounds { end + 51 ≤ length out.old }
-    ensures written { Written out.old end (kept_text output (place_as place) count bytes.now) result out.new }
-    ensures upper_bound { result ≤ end + 51 }
-{
-    match output {
-        Output::Entries => {
-            let number = trace::record_number(bytes);
-            entry_text::write_entry(out, end, place.kept(number))
-        }
-        Output::Records => {
-            // There is room, so it answers the next number, which the count gives too.
-            let _ = trace::write_record(
-                convert::number_after(count),
-                trace::access_of(bytes),
-                &mut out[end..],
-            );
-            end + 20
-        }
-    }
-}
-
 // Where the rescue of a chunk stands: the bytes before `at` are passed, the output ends at `end`; the scan's place, and the entries that were listed.
 #[derive(Clone, Copy)]
 pub struct Rescued {
@@ -86,6 +56,31 @@ pub struct Rescued {
     pub end: usize,
     pub place: Place,
     pub tally: Tally,
+}
+
+// The record at the start of the bytes, which stands where the scan does.
+fn write_kept(output: Output, bytes: &[u8], out: &mut [u8], s: Rescued) -> usize
+    requires in_bounds { 20 ≤ length bytes.now }
+    requires run_bound { s.place.from + s.place.run < 2 ^ 64 }
+    requires end_in_bounds { s.end + 51 ≤ length out.old }
+    ensures written { Written out.old s.end (kept_text output (place_as s.place) s.tally.kept bytes.now) result out.new }
+    ensures upper_bound { result ≤ s.end + 51 }
+{
+    match output {
+        Output::Entries => {
+            let number = trace::record_number(bytes);
+            entry_text::write_entry(out, s.end, s.place.kept(number))
+        }
+        Output::Records => {
+            // There is room, so it answers the next number, which the count gives too.
+            let _ = trace::write_record(
+                convert::number_after(s.tally.kept),
+                trace::access_of(bytes),
+                &mut out[s.end..],
+            );
+            s.end + 20
+        }
+    }
 }
 
 // Writes the record at the start of the bytes, and before it what was skipped.
@@ -97,15 +92,17 @@ fn write_found(output: Output, bytes: &[u8], out: &mut [u8], s: Rescued) -> Resc
     ensures wrote { Wrote output (kept_first bytes.now ∷ []) s out.old result out.new }
     ensures further { Further s result }
 {
-    let ranged = tally_range(s.tally, s.place);
-    let middle = write_range(output, s.place, out, s.end);
-    let end = write_kept(output, s.place, ranged.kept, bytes, out, middle);
+    let ranged = Rescued {
+        end: write_range(output, s.place, out, s.end),
+        tally: tally_range(s.tally, s.place),
+        ..s
+    };
     let number = trace::record_number(bytes);
     Rescued {
         at: s.at + 20,
-        end,
+        end: write_kept(output, bytes, out, ranged),
         place: s.place.keep(number),
-        tally: ranged.with(s.place.kept(number)),
+        tally: ranged.tally.with(s.place.kept(number)),
     }
 }
 
