@@ -2,7 +2,7 @@
 // No contract can say what is read or written.
 #![tactic(auto)]
 
-ghost use Rattle.std.specs.Prelude.{◌≡◌, slice_index, EachIndex};
+ghost use Rattle.std.specs.Prelude.{◌≡◌, ◌==◌, min, slice_index, EachIndex, if◌then◌else◌};
 ghost use Rattle.testing.specs.Bridge.{AnswersInTurn, number_at, with_number, digest_from};
 
 // Nothing says that an input ends, so a program counts its turns: more than it has cases.
@@ -40,6 +40,16 @@ pub fn read_padded<const N: usize>() -> [u8; N] {
     let mut bytes = [0; N];
     io::read_full(0, &mut bytes);
     bytes
+}
+
+// The most bytes that a case reads at a time.
+const MOST: u32 = 65000;
+
+// How many bytes a case reads at a time: the most where it says none, or more.
+pub fn portion(asked: u32) -> u32
+    ensures { result ≡ (if asked == 0 then 65000 else min asked 65000) }
+{
+    if asked == 0 { MOST } else { asked.min(MOST) }
 }
 
 fn number(bytes: &[u8], place: usize) -> u32
