@@ -2,11 +2,12 @@
 -- place 0, goes on by one phase, and ends where no phase is left or the next stands past the last dword.
 use Rattle.std.specs.Prelude.{◌≡◌, refl, Bool, true, false, not, ◌&&◌, List, [], ◌∷◌, ◌++◌, map, ℕ, zero, suc, ◌+◌, ◌≤◌, ◌<◌, eqb, leb, ltb, length, get_or, drop, set}
 use Rattle.std.proofs.Common.{ap, sym, ◌∙◌, arith, add-one, length-set, drop_of_length-le, drop-cons, eqb-true, le-ltb, lt-ltb, ltb-true, ltb-false}
+use Rattle.std.proofs.Math.Bool.{and_assoc, and-true}
 use Rattle.std.proofs.lemmas.List.{length-map}
 use Rattle.std.proofs.lemmas.List.Edits.{sets, sets-eq}
 use Rattle.std.proofs.lemmas.Bool.{not-true}
 use Rattle.std.proofs.lemmas.Bool.Decides.{nat_tests}
-use Rattle.std.specs.List.{list_all}
+use Rattle.std.specs.List.{fold}
 use Rattle.model.specs.Checks.{above}
 use Rattle.model.specs.Lanes.{dword_of, bytes_of, stores, read_dword, write_dword}
 use Rattle.model.specs.Runs.{Entry}
@@ -75,10 +76,11 @@ module _ (mode d : ℕ) {a : Bool} {pins given : ℕ} (p : given ≡ pins) (h : 
   pub stayed : a ≡ false → d ≡ next mode pins d
   stayed e = rw (← p, ← h, e)
 
--- the test of all phases, as the code finds it
-pub all_fit : (ps : List Phase) → list_all (λ p. leb p.pins 15) ps ≡ pins_fit (phases_as ps)
-all_fit [] = refl
-all_fit (p ∷ ps) = ap (◌&& list_all (λ p. leb p.pins 15) ps) (fits p.pins) ∙ ap (not (above 15 p.pins) &&◌) (all_fit ps)
+-- the test of all phases, as the code gathers it
+pub all_fit : (fit : Bool) (ps : List Phase) → fold (λ (a : Bool) (p : Phase). a && leb p.pins 15) fit ps ≡ (fit && pins_fit (phases_as ps))
+all_fit fit [] = sym (and-true fit)
+all_fit fit (p ∷ ps) =
+    all_fit (fit && leb p.pins 15) ps ∙ and_assoc fit (leb p.pins 15) (pins_fit (phases_as ps)) ∙ ap (λ b. fit && (b && pins_fit (phases_as ps))) (fits p.pins)
   where
     fits : (pins : ℕ) → leb pins 15 ≡ not (above 15 pins)
     fits pins = grind (arith, nat_tests)
