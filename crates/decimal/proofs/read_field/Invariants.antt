@@ -3,5 +3,5 @@ use Rattle.std.proofs.Common.{◌+◌, ◌≤◌, drop, ◌*◌}
 use Rattle.decimal.specs.ReadLaws.{Half}
 use Rattle.decimal.proofs.read_field.Given as goal
 
-abbrev pub invariant-loop-i : goal.invariant-loop-i
-invariant-loop-i l = Half (drop l.at l.text) l.rest l.i l.n × (l.n ≤ 10 * l.limit + 9)
+abbrev pub invariant-loop-p : goal.invariant-loop-p
+invariant-loop-p l = Half (drop l.at l.text) (drop l.p l.text) l.n × (l.n ≤ 10 * l.limit + 9)
