@@ -9,5 +9,8 @@ returns-clause-turned c =
     let r = c.read_chunk-chunk in
     let kept : length k.new.buffer ≡ 65520 = omega arith in
     let read : length r.new.buffer ≡ 65520 = omega arith in
-    rescued c.args.output c.requires.going kept read k.ensures r.ensures refl c.least-least.ensures c.rescue_chunk-rescued.ensures c.records_told-told.ensures
-    c.goes_on-more.ensures
+    let before = c.work-before.ensures in
+    let keeps = rw (before, c.size-full.ensures) at k.ensures in
+    let chunk = rw before at c.rescue_chunk-rescued.ensures in
+    let told = rw before at c.records_told-told.ensures in
+    rw c.next.ensures (rescued c.args.output c.requires.going kept read keeps r.ensures refl c.least-least.ensures chunk told refl)
