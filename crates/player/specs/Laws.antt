@@ -1,5 +1,5 @@
 -- A chunk half answered: what is left of its text and of its standing, from one record to the next.
-use Rattle.std.specs.Prelude.{◌≡◌, refl, false, List, ℕ, ◌+◌, ◌<◌, ◌≤◌, length, drop}
+use Rattle.std.specs.Prelude.{◌≡◌, refl, false, Result, Err, List, ℕ, ◌+◌, ◌<◌, ◌≤◌, length, drop}
 use Rattle.std.proofs.Common.{arith, length-drop, drop-drop}
 use Rattle.std.proofs.lemmas.List.Edits.{sets}
 use Rattle.model.specs.Accesses.{Access, access}
@@ -7,8 +7,8 @@ use Rattle.model.specs.Trace.{recorded, refused, read_record, reading_number}
 use Rattle.model.specs.Text.{log_text, line_text}
 use Rattle.model.specs.Replay.{Standing, Replayed, nothing_more, ◌and_then◌, answered, logged, replay_record, replay}
 use Rattle.model.proofs.ReplayLaws.{replay_stopped, replay_none, replay_more}
-use Rattle.trace.specs.declared.Read.{Read}
-use Rattle.trace.specs.declared.Read.TheVariants.{Refused}
+use Rattle.access.specs.declared.Access as code
+use Rattle.access.specs.declared.Refusal.{Refusal}
 use Rattle.trace.specs.Bridge.{read_as}
 use Rattle.standing.specs.Bridge.{PerformedOn, performed}
 use Rattle.player.specs.Bridge.{Played}
@@ -54,5 +54,5 @@ module _ {whole : Replayed} {before input out out' : List ℕ} {at end end' : �
       nothing_left (replay_stopped (logged now n).standing (drop (at + 20) input) refl) (one_less (logged now n) h going (rw (← e)) l p)
 
 -- the refusal's number is the reader's
-pub read_refused : {read : Read} {n m : ℕ} → read ≡ Refused m → n ≡ reading_number (read_as read) → refused n ≡ read_as read
+pub read_refused : {read : Result code.Access Refusal} {n : ℕ} {m : Refusal} → read ≡ Err m → n ≡ reading_number (read_as read) → refused n ≡ read_as read
 read_refused t e = rw (e, t)

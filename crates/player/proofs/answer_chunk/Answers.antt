@@ -28,7 +28,7 @@ pub loop-at-preserved : goal.loop-at-preserved
 loop-at-preserved c =
     let l = c.loop-at in
     let read = rw (from_place c.args.input.now l.at) at c.read_record-read.ensures in
-    let q = rw c.in-Record.is at read in
+    let q = rw c.in-Ok.is at read in
     let left = answered_left (standing_as l.standing l.shared l.window) l.invariant.going c.loop-at-test.true (performed_as c.perform-performed.result _ _) q c.perform-performed.ensures c.write_answer-end.ensures.written l.invariant.left in
     let count = counted c.perform-performed.result l.standing _ _ _ _ _ c.perform-performed.ensures in
     record {

@@ -15,23 +15,23 @@ pub returns-in_default : goal.returns-in_default
 returns-in_default c =
     let a = c.args in
     let r = c.requires.side_value in
-    let read = rw (from_place a.trace.now c.loop-at.at) at c.read_record-read.ensures in
+    let read = rw (from_place a.trace.now c.loop-at.at) at c.read_record.ensures in
     let stopped = refused_there r.1 c.loop-at.invariant _ c.loop-at-test.true (rw c.in_default.is at read) in
-    c.refused.ensures ∙ ap told (sym (why_refused a.trace.now a.side a.position r.0 r.1 r.2 stopped))
+    ap told (sym (why_refused a.trace.now a.side a.position r.0 r.1 r.2 stopped))
 
 pub after-history-requires : goal.after-history-requires
 after-history-requires c =
-    rw c.look-shown.ensures (few_shown c.requires.side_value.1 c.loop-at.invariant _ (performed_as c.perform-performed.result _ _) c.perform-performed.ensures)
+    rw c.look-shown.ensures (few_shown c.requires.side_value.1 c.loop-at.invariant _ (performed_as c.perform.result _ _) c.perform.ensures)
 
 pub loop-at-preserved : goal.loop-at-preserved
 loop-at-preserved c =
     let a = c.args in
     let r = c.requires.side_value in
     let half = c.loop-at.invariant in
-    let read = rw (from_place a.trace.now c.loop-at.at) at c.read_record-read.ensures in
-    let q = rw c.in-Record.is at read in
+    let read = rw (from_place a.trace.now c.loop-at.at) at c.read_record.ensures in
+    let q = rw c.in-Ok.is at read in
     let next = rw (half.number, c.look-shown.ensures) at c.after-history.ensures in
-    one_explained r.1 half (performed_as c.perform-performed.result _ _) c.loop-at-test.true q c.perform-performed.ensures (ltb-false 81920 (length a.trace.now) r.2) next
+    one_explained r.1 half (performed_as c.perform.result _ _) c.loop-at-test.true q c.perform.ensures (ltb-false 81920 (length a.trace.now) r.2) next
 
 pub told-requires : goal.told-requires
 told-requires c = few_puts c.requires.side_value.1 c.loop-at.invariant
