@@ -1,5 +1,5 @@
 -- An access turned, by what was read; a record stored behind what stands before it; and a chunk half turned, from one access to the next.
-use Rattle.std.specs.Prelude.{◌≡◌, refl, true, false, Some, None, Result, Ok, Err, List, ◌++◌, ℕ, ◌+◌, ◌-◌, ◌*◌, ◌<◌, ◌≤◌, length, take, drop}
+use Rattle.std.specs.Prelude.{◌≡◌, refl, true, false, Option, Some, None, IfSome, Result, Ok, Err, List, ◌++◌, ℕ, ◌+◌, ◌-◌, ◌*◌, ◌<◌, ◌≤◌, length, take, drop}
 use Rattle.std.proofs.Common.{sym, ap, ◌∙◌, append_assoc, append-nil, arith, length-drop, drop_of_length-le, drop-drop, lit≤}
 use Rattle.std.proofs.lemmas.List.Edits.{sets, sets-eq}
 use Rattle.std.proofs.lemmas.Option.{none-some}
@@ -71,17 +71,25 @@ was_refused from count (refused n) e = (n, refl)
 was_refused from count (recorded q) e = absurd (none-some (length (from.bytes count q)) (sym e))
 
 -- an access has 12 bytes or more, and its output no more than three times as many
-pub far : (from : code.Form) {count at size : ℕ} {input before after : List ℕ} {step : Step} → AccessTurned (form_as from) (other_as from) count input before at step after →
-    step.size ≡ Some size → (12 ≤ size) × (size ≤ length input) × (step.end ≤ at + 3 * size)
-far Text {count} {input} t e =
-    let q = was_read text_form count (read_line input) (sym t.size ∙ e) in
-    let s = text_readable.size count q.0 input q.1 in
-    let place = rw q.1 at t.text.place in
-    (omega (arith, s, q.2), omega (arith, s, q.2), omega (arith, s, q.2))
-far Trace {count} {input} t e =
-    let q = was_read trace_form count (read_record input (number_after count)) (sym t.size ∙ e) in
-    let s = trace_readable.size count q.0 input q.1 in
-    (omega (arith, q.2), omega (arith, s, q.2), omega (arith, t.room, q.2))
+pub far : (from : code.Form) {count at : ℕ} {input before after : List ℕ} {step : Step} → AccessTurned (form_as from) (other_as from) count input before at step after →
+    IfSome step.size (λ size. (12 ≤ size) × (size ≤ length input) × (step.end ≤ at + 3 * size))
+far from {count} {at} {input} {step} t = by step.size refl
+  where
+    some : (from : code.Form) {size : ℕ} {before after : List ℕ} → AccessTurned (form_as from) (other_as from) count input before at step after → step.size ≡ Some size →
+        (12 ≤ size) × (size ≤ length input) × (step.end ≤ at + 3 * size)
+    some Text t e =
+        let q = was_read text_form count (read_line input) (sym t.size ∙ e) in
+        let s = text_readable.size count q.0 input q.1 in
+        let place = rw q.1 at t.text.place in
+        (omega (arith, s, q.2), omega (arith, s, q.2), omega (arith, s, q.2))
+    some Trace t e =
+        let q = was_read trace_form count (read_record input (number_after count)) (sym t.size ∙ e) in
+        let s = trace_readable.size count q.0 input q.1 in
+        (omega (arith, q.2), omega (arith, s, q.2), omega (arith, t.room, q.2))
+
+    by : (o : Option ℕ) → step.size ≡ o → IfSome o (λ size. (12 ≤ size) × (size ≤ length input) × (step.end ≤ at + 3 * size))
+    by None e = tt
+    by (Some size) e = some from t e
 
 -- A CHUNK HALF TURNED
 

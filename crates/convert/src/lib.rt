@@ -1,7 +1,7 @@
 // Document 02, L1: a list of accesses turned from one form into the other: "a text list of accesses into a trace", and "back".
 #![tactic(auto)]
 
-ghost use Rattle.std.specs.Prelude.{◌≡◌, ◌+◌, ◌*◌, ◌<◌, ◌≤◌, ◌^◌, length};
+ghost use Rattle.std.specs.Prelude.{◌≡◌, ◌+◌, ◌*◌, ◌<◌, ◌≤◌, ◌^◌, length, IfSome};
 ghost use Rattle.model.specs.Trace.{number_after};
 ghost use Rattle.model.specs.Convert.{text_form, trace_form};
 ghost use Rattle.convert.specs.Bridge.{form_as, other_as, AccessTurned, ChunkTurned};
@@ -82,7 +82,8 @@ fn record_to_line(trace: &[u8], count: u64, out: &mut [u8], end: usize) -> Step
 fn turn_one(from: Form, input: &[u8], count: u64, out: &mut [u8], end: usize) -> Step
     requires end_in_bounds { end + 45 ≤ length out.old }
     requires count_bound { count + 1 < 2 ^ 64 }
-    ensures { AccessTurned (form_as from) (other_as from) count input.now out.old end result out.new }
+    ensures turned { AccessTurned (form_as from) (other_as from) count input.now out.old end result out.new }
+    ensures far { IfSome result.size (λ size. (12 ≤ size) × (size ≤ length input.now) × (result.end ≤ end + 3 * size)) }
 {
     match from {
         Form::Text => line_to_record(input, count, out, end),
