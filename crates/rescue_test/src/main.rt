@@ -163,9 +163,7 @@ fn next_trace(input: &mut [u8; INPUT], out: &mut [u8; OUTPUT]) -> bool {
     };
     let [how, argument, bytes] = testing::numbers::<3>(&head);
     if how == 0 {
-        let asked = (bytes as usize).min(65000);
-        let size = io::read_full(0, &mut input[..asked]);
-        into_list(argument, &input[..size]);
+        into_list(argument, testing::read_most(&mut input[..65000], bytes));
     } else {
         in_portions(how, argument, bytes, input, out);
     }

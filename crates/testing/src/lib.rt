@@ -2,7 +2,7 @@
 // No contract can say what is read or written.
 #![tactic(auto)]
 
-ghost use Rattle.std.specs.Prelude.{◌≡◌, ◌==◌, min, slice_index, EachIndex, if◌then◌else◌};
+ghost use Rattle.std.specs.Prelude.{◌≡◌, ◌==◌, ◌≤◌, min, length, slice_index, EachIndex, if◌then◌else◌};
 ghost use Rattle.testing.specs.Bridge.{AnswersInTurn, number_at, with_number, digest_from};
 
 // Nothing says that an input ends, so a program counts its turns: more than it has cases.
@@ -40,6 +40,15 @@ pub fn read_padded<const N: usize>() -> [u8; N] {
     let mut bytes = [0; N];
     io::read_full(0, &mut bytes);
     bytes
+}
+
+// As many of the next bytes of the input as are asked for, as there is room for, and as there are.
+pub fn read_most(room: &mut [u8], asked: u32) -> &[u8]
+    ensures { length result.now ≤ min asked (length room.old) }
+{
+    let most = (asked as usize).min(room.len());
+    let size = io::read_full(0, &mut room[..most]);
+    &room[..size]
 }
 
 // The most bytes that a case reads at a time.
