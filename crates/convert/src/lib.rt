@@ -115,27 +115,24 @@ pub fn convert_chunk(
     ensures chunk_turned { ChunkTurned (form_as from) (other_as from) least start input.now out.old result out.new }
     ensures count_bound { 12 * result.count ≤ 12 * start + length input.now }
 {
-    let mut count = start;
-    let mut at = 0;
-    let mut end = 0;
-    while input.len() - at >= least {
-        let step = turn_one(from, &input[at..], count, out, end);
-        end = step.end;
+    let mut turned = Converted {
+        at: 0,
+        end: 0,
+        count: start,
+        stopped: false,
+    };
+    while input.len() - turned.at >= least {
+        let step = turn_one(from, &input[turned.at..], turned.count, out, turned.end);
+        turned.end = step.end;
         let Some(size) = step.size else {
             return Converted {
                 at: input.len(),
-                end,
-                count,
                 stopped: true,
+                ..turned
             };
         };
-        at += size;
-        count += 1;
+        turned.at += size;
+        turned.count += 1;
     }
-    Converted {
-        at,
-        end,
-        count,
-        stopped: false,
-    }
+    turned
 }
