@@ -40,20 +40,10 @@ fn write_two_digits(out: &mut [u8], at: usize, n: u64) -> usize
 fn digits(n: u64) -> usize
     ensures { result ≡ length (decimal_text n) }
 {
-    let mut left = n;
-    let mut count = 0;
-    while left >= 100 {
-        left /= 100;
-        count += 2;
-    }
-    if left >= TWO_DIGITS_FROM {
-        count + 2
-    } else {
-        count + 1
-    }
+    n.checked_ilog10().unwrap_or(0) as usize + 1
 }
 
-// From the back, two digits a turn: half the divisions of one digit a turn, and no call for each of them.
+// From the back, two digits a turn: half the divisions of one digit a turn, and no call for each of them. (The loop divides down, and counts no index.)
 fn write_decimal(out: &mut [u8], at: usize, n: u64) -> usize
     requires { at + length (decimal_text n) ≤ length out.old }
     ensures { Written out.old at (decimal_text n) result out.new }
