@@ -4,6 +4,7 @@
 #![tactic(auto)]
 
 ghost use Rattle.std.specs.Prelude.{◌≤◌};
+ghost use Rattle.convert_test.specs.declared.TheConstants.{INPUT};
 
 use convert::Form;
 use testing::show_line;
@@ -19,6 +20,8 @@ struct Place {
     size: usize,
     count: u64,
     stopped: bool,
+    ghost in_order: { at ≤ size },
+    ghost in_buffer: { size ≤ INPUT },
 }
 
 fn form_of(number: u32) -> Form {
@@ -33,10 +36,7 @@ fn turn_portion(
     ended: bool,
     input: &mut [u8; INPUT],
     out: &mut [u8; OUTPUT],
-) -> Place
-    requires { (last.at ≤ last.size) × (last.size ≤ INPUT) }
-    ensures { (result.at ≤ result.size) × (result.size ≤ INPUT) }
-{
+) -> Place {
     let kept = stream::keep(input, last.at, last.size);
     let end = kept + bytes as usize;
     if end > INPUT || last.count > u64::from(u32::MAX) {
@@ -70,13 +70,9 @@ fn turn_input(
         count: 0,
         stopped: false,
     };
-    let most = testing::portion(portion);
-    let mut left = bytes;
-    while left > 0 {
-        let size = left.min(most);
-        left -= size;
-        place = turn_portion(from, place, size, left == 0, input, out);
-    }
+    testing::each_portion(portion, bytes, |size, ended| {
+        place = turn_portion(from, place, size, ended, input, out);
+    });
     show_line(&[place.count, u64::from(place.stopped)]);
 }
 

@@ -5,6 +5,7 @@
 
 ghost use Rattle.std.specs.Prelude.{◌≡◌, true, ◌+◌, ◌<◌, ◌≤◌, ◌^◌, length};
 ghost use Rattle.rescue_chunk.specs.Bridge.{Small};
+ghost use Rattle.rescue_test.specs.declared.TheConstants.{INPUT};
 
 use entry_text::Tally;
 use rescue_chunk::{Output, Rescued};
@@ -51,6 +52,9 @@ fn into_list(numbers: u32, trace: &[u8]) {
 struct Portion {
     size: usize,
     rescued: Rescued,
+    ghost in_order: { rescued.at ≤ size },
+    ghost in_buffer: { size ≤ INPUT },
+    ghost small: { Small rescued.place rescued.tally },
 }
 
 // No trace of a case is longer.
@@ -94,10 +98,7 @@ fn rescue_portion(
     ended: bool,
     input: &mut [u8; INPUT],
     out: &mut [u8; OUTPUT],
-) -> Portion
-    requires { (last.rescued.at ≤ last.size) × (last.size ≤ INPUT) × Small last.rescued.place last.rescued.tally }
-    ensures { (result.rescued.at ≤ result.size) × (result.size ≤ INPUT) × Small result.rescued.place result.rescued.tally }
-{
+) -> Portion {
     let kept = stream::keep(input, last.rescued.at, last.size);
     let end = kept + bytes as usize;
     if end > INPUT {
@@ -140,13 +141,9 @@ fn in_portions(
             tally: Tally::none(),
         },
     };
-    let most = testing::portion(portion);
-    let mut left = bytes;
-    while left > 0 {
-        let size = left.min(most);
-        left -= size;
-        last = rescue_portion(output, last, size, left == 0, input, out);
-    }
+    testing::each_portion(portion, bytes, |size, ended| {
+        last = rescue_portion(output, last, size, ended, input, out);
+    });
     close(output, last.rescued, out);
     if how == 2 {
         io::write_all(1, b"records ");

@@ -3,7 +3,7 @@
 #![tactic(auto)]
 
 ghost use Rattle.std.specs.Prelude.{◌≡◌, ◌==◌, ◌≤◌, min, length, slice_index, EachIndex, if◌then◌else◌};
-ghost use Rattle.testing.specs.Bridge.{AnswersInTurn, number_at, with_number, digest_from};
+ghost use Rattle.testing.specs.Bridge.{AnswersInTurn, TakesPortions, portion, number_at, with_number, digest_from};
 
 // Nothing says that an input ends, so a program counts its turns: more than it has cases.
 pub const TURNS: u32 = 1000000;
@@ -54,11 +54,25 @@ pub fn read_most(room: &mut [u8], asked: u32) -> &[u8]
 // The most bytes that a case reads at a time.
 const MOST: u32 = 65000;
 
-// How many bytes a case reads at a time: the most where it says none, or more.
-pub fn portion(asked: u32) -> u32
-    ensures { result ≡ (if asked == 0 then 65000 else min asked 65000) }
+fn portion(asked: u32) -> u32
+    ensures { result ≡ portion asked }
 {
     if asked == 0 { MOST } else { asked.min(MOST) }
+}
+
+// Has so many bytes taken in portions of the size that a case asks for, the most where it asks for none or more: each its size, and whether it is the
+// last.
+pub fn each_portion<F: FnMut(u32, bool)>(asked: u32, bytes: u32, mut take: F)
+    requires { F.IsAlwaysCallable take }
+    ensures { (last : F) × TakesPortions (λ f size ended next. F.step f size ended tt next) (portion asked) bytes take last }
+{
+    let most = portion(asked);
+    let mut left = bytes;
+    while left > 0 {
+        let size = left.min(most);
+        left -= size;
+        take(size, left == 0);
+    }
 }
 
 fn number(bytes: &[u8], place: usize) -> u32
