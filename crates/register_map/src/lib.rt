@@ -7,6 +7,8 @@ ghost use Rattle.register_map.specs.Bridge.{resource_as};
 
 use dma::Programmed;
 
+// The sides are numbers, and `Unmodelled` is a case and no `None`, as `register_reads::read_at` and `register_writes::write_at`, which are public, are
+// asked for each of these.
 #[derive(Clone, Copy)]
 pub enum Resource {
     // the FIFO that a read takes from, the one that a write puts into
@@ -20,7 +22,6 @@ pub enum Resource {
     MailFrom(u8),
     // an address in shared memory
     SharedAt(u32),
-    // a case, and no Option around the others, since `register_reads::read_at` and `register_writes::write_at`, which are public, answer it too
     Unmodelled,
 }
 

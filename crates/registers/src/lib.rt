@@ -35,6 +35,7 @@ pub fn register_access(
     if !modelled {
         return card.refused(Refusal::Unmodelled);
     }
+    // 0 a read, 1 a write: a number, since a caller may hand in any byte.
     match direction {
         0 => register_reads::read_at(card, shared, x, side, dword),
         1 => register_writes::write_at(card, shared, x, side, dword),
