@@ -65,10 +65,9 @@ pub fn answer_chunk(
     }
     let mut standing = start;
     let mut end = 0;
-    let mut at = 0;
-    while at < input.len() {
+    for record in input.chunks(20) {
         let expected = standing.expected;
-        let read = trace::read_record(&input[at..], expected);
+        let read = trace::read_record(record, expected);
         // Document 01 orders that `let .. else` takes the reader's answer apart.
         let Ok(q) = read else {
             end = report::write_log(out, end, refusal_number(read), standing.count);
@@ -81,7 +80,6 @@ pub fn answer_chunk(
         let performed = standing.perform(shared, window, q);
         standing = performed.standing;
         end = write_answer(out, end, expected, performed.answer);
-        at += 20;
     }
     Replayed { end, standing }
 }

@@ -97,16 +97,14 @@ fn follow(
 {
     let mut standing = standing::start();
     let mut history = History::start();
-    let mut at = 0;
-    while at < trace.len() {
+    for record in trace.chunks(20) {
         let n = standing.expected;
-        let Ok(q) = trace::read_record(&trace[at..], n) else {
+        let Ok(q) = trace::read_record(record, n) else {
             return Err(Refusal::RefusedTrace);
         };
         standing = standing.perform(shared, window, q).standing;
         let shown = look(standing.card, side, position);
         history = history.after(n, shown.up, shown.held);
-        at += 20;
     }
     Ok(history.told(entries(standing.card, position)))
 }
