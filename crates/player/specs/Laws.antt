@@ -1,5 +1,5 @@
 -- A chunk half answered: what is left of its text and of its standing, from one record to the next.
-use Rattle.std.specs.Prelude.{◌≡◌, refl, false, Result, Err, List, ℕ, ◌+◌, ◌<◌, ◌≤◌, length, drop}
+use Rattle.std.specs.Prelude.{◌≡◌, refl, false, Result, Err, List, ℕ, ◌+◌, ◌<◌, length, drop}
 use Rattle.std.proofs.Common.{arith}
 use Rattle.std.proofs.lemmas.List.Edits.{sets}
 use Rattle.model.specs.Accesses.{Access, access}

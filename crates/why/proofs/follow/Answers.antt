@@ -1,5 +1,5 @@
 -- A record that is refused stops the replay; one that is taken gives the next reason; and at the end the reason of all records is the answer.
-use Rattle.std.proofs.Common.{ℕ, ◌≡◌, ◌<◌, ◌≤◌, ◌*◌, sym, ap, ◌∙◌, arith, length, length-drop, drop-drop, ltb-false}
+use Rattle.std.proofs.Common.{ℕ, ◌<◌, ◌≤◌, ◌*◌, sym, ap, ◌∙◌, arith, length, length-drop, drop-drop, ltb-false}
 use Rattle.std.specs.declared.slice.Chunks.{Chunks}
 use Rattle.model.specs.Why.{places, told}
 use Rattle.standing.specs.Bridge.{standing_as, performed_as}
