@@ -1,11 +1,10 @@
 -- A walk along the phases, as the loops go it: what is still to be done from place `i` on, at dword `d` and with the memory as it is then. It begins at
 -- place 0, goes on by one phase, and ends where no phase is left or the next stands past the last dword.
-use Rattle.std.specs.Prelude.{◌≡◌, refl, Bool, true, false, not, ◌&&◌, List, [], ◌∷◌, ◌++◌, map, ℕ, zero, suc, ◌+◌, ◌≤◌, ◌<◌, eqb, leb, ltb, length, get_or, drop, set}
+use Rattle.std.specs.Prelude.{◌≡◌, refl, min, Bool, true, false, not, ◌&&◌, List, [], ◌∷◌, ◌++◌, map, ℕ, zero, suc, ◌+◌, ◌≤◌, ◌<◌, eqb, leb, ltb, length, get_or, drop, set}
 use Rattle.std.proofs.Common.{ap, sym, ◌∙◌, arith, add-one, length-set, drop_of_length-le, drop-cons, eqb-true, le-ltb, lt-ltb, ltb-true, ltb-false}
-use Rattle.std.proofs.Math.Bool.{and_assoc, and-true}
+use Rattle.std.proofs.Math.Bool.{and_assoc, and-true, or-true}
 use Rattle.std.proofs.lemmas.List.{length-map}
 use Rattle.std.proofs.lemmas.List.Edits.{sets, sets-eq}
-use Rattle.std.proofs.lemmas.Bool.{not-true}
 use Rattle.std.proofs.lemmas.Bool.Decides.{nat_tests}
 use Rattle.std.specs.List.{fold}
 use Rattle.model.specs.Checks.{above}
@@ -85,11 +84,20 @@ all_fit fit (p ∷ ps) =
     fits : (pins : ℕ) → leb pins 15 ≡ not (above 15 pins)
     fits pins = grind (arith, nat_tests)
 
--- where the pins of all phases fit, those of each do
-pub pins_at : (ps : List Phase) (i : ℕ) → pins_fit (phases_as ps) ≡ true → (get_or ps i no_phase).pins ≤ 15
-pins_at [] i h = omega arith
-pins_at (p ∷ ps) zero h = ltb-false 15 p.pins (not-true _ (and_left (not (above 15 p.pins)) (pins_fit (phases_as ps)) h))
-pins_at (p ∷ ps) (suc i) h = pins_at ps i (and_right (not (above 15 p.pins)) (pins_fit (phases_as ps)) h)
+-- pins above 15 are refused alike
+pub decode_cut : (mode pins dq : ℕ) → decode mode pins dq ≡ decode mode (min pins 255) dq
+unfolding decode
+decode_cut mode pins dq = by (ltb 255 pins) refl
+  where
+    by : (b : Bool) → ltb 255 pins ≡ b → decode mode pins dq ≡ decode mode (min pins 255) dq
+    by true e =
+        let l = ltb-true 255 pins e in
+        let m : min pins 255 ≡ 255 = omega arith in
+        rw (m, lt-ltb 15 pins (omega arith), or-true)
+    by false e =
+        let l = ltb-false 255 pins e in
+        let m : min pins 255 ≡ pins = omega arith in
+        rw m
 
 -- THE WALK
 

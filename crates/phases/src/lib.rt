@@ -91,13 +91,14 @@ pub fn checks(unfit: bool, side: u8, mode: u8, phases: &[Phase], short: bool) ->
 
 // THE SINGLE ACCESSES, in place: past the checks each is done, so that neither record nor checks are looked at again.
 
-// The lanes and the dword of a phase.
+// The lanes and the dword of a phase. All pins above 15 are refused alike.
+#[tactic(auto, using(crate::specs::Laws::decode_cut))]
 fn decoded(mode: u8, phase: Phase) -> Decoded
-    requires { phase.pins ≤ 15 }
     ensures lanes { result.lanes ≡ (decode mode phase.pins phase.dq).lanes }
     ensures dword { result.dword ≡ (decode mode phase.pins phase.dq).dword }
 {
-    pins::decode(mode, phase.pins as u8, phase.dq).unwrap_or(Decoded::refused())
+    let pins = phase.pins.min(255) as u8;
+    pins::decode(mode, pins, phase.dq).unwrap_or(Decoded::refused())
 }
 
 // All pins low on a bus of 32 bits: the whole dword, for which no lanes are to be worked out.
@@ -108,7 +109,7 @@ fn whole(mode: u8, phase: Phase) -> bool
 }
 
 fn write_phase(shared: &mut [u8], mode: u8, d: u32, phase: Phase)
-    requires { (length shared.old ≡ shared_length) × (d ≤ last_dword) × (phase.pins ≤ 15) }
+    requires { (length shared.old ≡ shared_length) × (d ≤ last_dword) }
     ensures { shared.new ≡ left_by writes mode d (phase_as phase) shared.old }
 {
     let at = 4 * d as usize;
@@ -121,7 +122,7 @@ fn write_phase(shared: &mut [u8], mode: u8, d: u32, phase: Phase)
 }
 
 fn read_phase(shared: &[u8], mode: u8, d: u32, phase: Phase) -> u32
-    requires { (length shared.now ≡ shared_length) × (d ≤ last_dword) × (phase.pins ≤ 15) }
+    requires { (length shared.now ≡ shared_length) × (d ≤ last_dword) }
     ensures { result ≡ value_in (reads []) mode d (phase_as phase) shared.now }
 {
     let at = 4 * d as usize;
@@ -134,7 +135,7 @@ fn read_phase(shared: &[u8], mode: u8, d: u32, phase: Phase) -> u32
 
 // Writes the phases up to the first that stands past the last dword, and answers how many were done.
 pub fn write_phases(shared: &mut [u8], mode: u8, start: u32, phases: &[Phase]) -> u32
-    requires { (length shared.old ≡ shared_length) × (length phases.now ≤ 65536) × (pins_fit (phases_as phases.now) ≡ true) }
+    requires { (length shared.old ≡ shared_length) × (length phases.now ≤ 65536) }
     ensures value { result ≡ length (entries_from writes mode start (phases_as phases.now) shared.old) }
     ensures shared_after { shared.new ≡ shared_from writes mode start (phases_as phases.now) shared.old }
 {
@@ -151,7 +152,7 @@ pub fn write_phases(shared: &mut [u8], mode: u8, start: u32, phases: &[Phase]) -
 
 // Reads the phases up to the first that stands past the last dword, each one's V into its place of the list, and answers how many were done.
 pub fn read_phases(shared: &[u8], mode: u8, start: u32, phases: &[Phase], list: &mut [u32]) -> u32
-    requires { (length shared.now ≡ shared_length) × (length phases.now ≤ 65536) × (pins_fit (phases_as phases.now) ≡ true) × (length phases.now ≤ length list.old) }
+    requires { (length shared.now ≡ shared_length) × (length phases.now ≤ 65536) × (length phases.now ≤ length list.old) }
     ensures value { result ≡ length (entries_from (reads list.old) mode start (phases_as phases.now) shared.now) }
     ensures list_after { list.new ≡ list_after (reads list.old) (entries_from (reads list.old) mode start (phases_as phases.now) shared.now) }
 {

@@ -20,7 +20,7 @@ pub read_phases-requires : goal.read_phases-requires
 read_phases-requires c =
     let a = c.args in
     let p = allowed a.card a.shared.now a.window.now a.side a.mode a.phases.now (ltb (length a.list.now) (length a.phases.now)) c.in_ok-checks.ensures (c.fits-unfit.ensures a.shared.now a.window.now refl refl) in
-    (p.size, p.count, p.pinned, ltb-false _ _ p.room)
+    (p.size, p.count, ltb-false _ _ p.room)
 
 pub returns : goal.returns
 returns c =

@@ -20,7 +20,7 @@ pub write_phases-requires : goal.write_phases-requires
 write_phases-requires c =
     let a = c.args in
     let p = allowed a.card a.shared.now a.window.now a.side a.mode a.phases.now false c.in_ok-checks.ensures (c.fits-unfit.ensures a.shared.now a.window.now refl refl) in
-    (p.size, p.count, p.pinned)
+    (p.size, p.count)
 
 pub returns : goal.returns
 returns c =
