@@ -1,6 +1,6 @@
--- `replay_chunks` is safe and ends: the lengths stay, no more records are counted than bytes read, and the measure is what is left of the trace.
+-- No more records are counted than bytes read, and what is left of the trace grows less.
 use Rattle.std.proofs.Common.{◌+◌, ◌≤◌}
-use Rattle.replay_test.proofs.replay_chunks.Given as goal
+use Rattle.replay_test.proofs.replay_trace.Given as goal
 
 abbrev pub invariant-loop-left : goal.invariant-loop-left
 invariant-loop-left l = l.standing.count + l.left ≤ l.bytes
