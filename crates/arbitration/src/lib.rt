@@ -6,7 +6,7 @@ ghost use Rattle.model.specs.Sides.{side_of, other};
 ghost use Rattle.model.specs.Arbitration.{pair_sound, arbitration_sound, fresh_arbitration, pair_of, flag, with_flag, with_flag_of, pair_value, flags_value};
 ghost use Rattle.arbitration.specs.Bridge.{pair_as, arbitration_as};
 
-#[derive(Clone, Copy)]
+#[derive(Clone, Copy, Default)]
 pub struct Pair {
     pub host: bool,
     pub local: bool,
@@ -69,11 +69,9 @@ impl Arbitration {
     pub fn fresh() -> Arbitration
         ensures { arbitration_as result ≡ fresh_arbitration }
     {
-        let clear = Pair {
-            host: false,
-            local: false,
-        };
-        Arbitration { pairs: [clear; 4] }
+        Arbitration {
+            pairs: [Pair::default(); 4],
+        }
     }
 
     // There are four, since the array has so many.

@@ -13,7 +13,7 @@ use arbitration::Pair;
 use transfer::Request;
 
 // DMALBASE, DMAHBASE and DMASIZE, named as in a transfer; and DMACTL: the flags P and L, PI and W.
-#[derive(Clone, Copy)]
+#[derive(Clone, Copy, Default)]
 pub struct Dma {
     pub shared: u32,
     pub pci: u32,
@@ -72,17 +72,7 @@ impl Dma {
     pub fn fresh() -> Dma
         ensures { dma_as result ≡ fresh_dma }
     {
-        Dma {
-            owner: Pair {
-                host: false,
-                local: false,
-            },
-            shared: 0,
-            pci: 0,
-            size: 0,
-            inhibit: false,
-            outward: false,
-        }
+        Dma::default()
     }
 
     fn stored(self, which: Programmed) -> u32

@@ -10,7 +10,7 @@ ghost use Rattle.model.specs.Why.{reserved};
 ghost use Rattle.events.specs.Bridge.{register_as, raised_all};
 
 // A set of events: the bit at an event's position says whether it is in.
-#[derive(Clone, Copy)]
+#[derive(Clone, Copy, Default)]
 pub struct EventSet(pub u32);
 
 pub const NONE: EventSet = EventSet(0);
@@ -116,7 +116,7 @@ pub fn reserved(side: u8, position: u8) -> bool
 }
 
 // An interrupt register: the enables, and the event status that is stored.
-#[derive(Clone, Copy)]
+#[derive(Clone, Copy, Default)]
 pub struct Register {
     pub enables: EventSet,
     pub status: EventSet,
@@ -126,10 +126,7 @@ impl Register {
     pub fn fresh() -> Register
         ensures { register_as result ≡ fresh_register }
     {
-        Register {
-            enables: NONE,
-            status: NONE,
-        }
+        Register::default()
     }
 
     pub fn raise(self, events: EventSet) -> Register

@@ -11,7 +11,7 @@ ghost use Rattle.interrupts.specs.Bridge.{interrupts_as, raised_both};
 use events::{EventSet, Register};
 
 // "HINT is the host's, LINT (0x04F4) the local side's."
-#[derive(Clone, Copy)]
+#[derive(Clone, Copy, Default)]
 pub struct Interrupts {
     pub hint: Register,
     pub lint: Register,
@@ -21,10 +21,7 @@ impl Interrupts {
     pub fn fresh() -> Interrupts
         ensures { interrupts_as result ≡ fresh_interrupts }
     {
-        Interrupts {
-            hint: Register::fresh(),
-            lint: Register::fresh(),
-        }
+        Interrupts::default()
     }
 
     pub fn sound(self) -> bool

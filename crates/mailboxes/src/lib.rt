@@ -9,7 +9,7 @@ ghost use Rattle.mailboxes.specs.Bridge.{mailboxes_as};
 use bays::BayIndex;
 
 // "HLDATA (0x04E8) goes from host to local, LHDATA (0x04F8) back." `lhwritten`: LHDATA was written since reset.
-#[derive(Clone, Copy)]
+#[derive(Clone, Copy, Default)]
 pub struct Mailboxes {
     pub hldata: u32,
     pub lhdata: u32,
@@ -20,11 +20,7 @@ impl Mailboxes {
     pub fn fresh() -> Mailboxes
         ensures { mailboxes_as result ≡ fresh_mailboxes }
     {
-        Mailboxes {
-            hldata: 0,
-            lhdata: 0,
-            lhwritten: false,
-        }
+        Mailboxes::default()
     }
 
     // "Mailbox data is below 65,536."
