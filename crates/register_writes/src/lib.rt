@@ -26,7 +26,8 @@ fn write_interrupts(card: Card, owner: u8, side: u8, dword: u32) -> Outcome
     )
 }
 
-// .. and a mailbox by the side that it goes from.
+// .. and a mailbox by the side that it goes from. One function of both, with the access's function handed in, would be no plainer: each promises a row
+// of its own.
 fn write_mail(card: Card, writer: u8, side: u8, dword: u32) -> Outcome
     ensures { (m w : List ℕ) → Settles (write_row (mail_from (side_of writer)) (world_as card m w) (side_of side) dword) card m w result m w }
 {
