@@ -34,6 +34,7 @@ fn replay_trace(input: &mut [u8; INPUT], out: &mut [u8; OUTPUT], bytes: u32) {
     let mut window = [0; 32768];
     let mut standing = standing::start();
     let mut left = bytes as usize;
+    // No `for`: the last chunk is smaller, so what is left is no index to count.
     while left > 0 {
         let size = left.min(INPUT);
         standing = replay_chunk(standing, &mut shared, &mut window, &mut input[..size], out);

@@ -20,11 +20,6 @@ pub fn each_case<F: FnMut() -> bool>(mut answer: F)
     }
 }
 
-// Fills the bytes from the input; false where the input ends before they are full.
-pub fn read_bytes(bytes: &mut [u8]) -> bool {
-    io::read_full(0, bytes) == bytes.len()
-}
-
 // The next bytes of the input; none where it ends before they are full.
 pub fn read_case<const N: usize>() -> Option<[u8; N]> {
     let mut bytes = [0; N];
@@ -68,6 +63,7 @@ pub fn each_portion<F: FnMut(u32, bool)>(asked: u32, bytes: u32, mut take: F)
 {
     let most = portion(asked);
     let mut left = bytes;
+    // No `for`: each portion has a size of its own, so what is left is no index to count.
     while left > 0 {
         let size = left.min(most);
         left -= size;
