@@ -42,7 +42,8 @@ fn convert_next(
     last.next(chunk, converted, converted.stopped, lost, told)
 }
 
-// Chunk after chunk, from the beginning.
+// Chunk after chunk, from the beginning. The three programs that do so have a loop each: one that is handed a closure forgets what that does to the
+// buffers, of which `Ended` speaks.
 fn convert_input(
     stdin: Stdin,
     from: Form,

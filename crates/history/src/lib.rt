@@ -17,8 +17,8 @@ pub enum Case {
     Held(u32),
 }
 
-// The answer: the case, and beside it the entries held, oldest first, with the records that put them; 0 where unused. They stay two arrays, as document 02
-// orders them: L7, "beside it two arrays of 32, entries and records".
+// The answer: the case, and beside it the entries held, oldest first, with the records that put them; 0 where unused. They stay two arrays: `told_as`,
+// which the promise of `why::why` cites, speaks of each by itself, with the zeros that are unused.
 #[derive(Clone, Copy)]
 pub struct Explanation {
     pub case: Case,

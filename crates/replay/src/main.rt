@@ -14,7 +14,8 @@ use turn::Turn;
 // Every loop must have an end: 5 times 2 to the 50 chunks, whose records a u64 still counts. At 10 GB a second they last a thousand years.
 const CHUNKS: u64 = 5629499534213120;
 
-// Chunk after chunk, from the fresh card and zeroed memories.
+// Chunk after chunk, from the fresh card and zeroed memories. The three programs that do so have a loop each: one that is handed a closure forgets what
+// that does to the buffers, of which `Ended` speaks.
 fn replay_input(
     stdin: Stdin,
     start: Standing,

@@ -169,6 +169,6 @@ fn next_trace(input: &mut [u8; INPUT], out: &mut [u8; OUTPUT]) -> bool {
 
 fn main() {
     let mut input = [0; INPUT];
-    let mut out = rescue_buffer::output_buffer();
+    let mut out = zeroed::bytes();
     testing::each_case(|| next_trace(&mut input, &mut out));
 }

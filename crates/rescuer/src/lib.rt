@@ -48,7 +48,8 @@ fn rescue_next(
     last.next(chunk, rescued, false, lost, told)
 }
 
-// Chunk after chunk, from the beginning.
+// Chunk after chunk, from the beginning. The three programs that do so have a loop each: one that is handed a closure forgets what that does to the
+// buffers, of which `Ended` speaks.
 fn rescue_input(
     stdin: Stdin,
     output: Output,

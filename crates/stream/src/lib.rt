@@ -10,13 +10,6 @@ use std::io::{Read, Stdin};
 // A full chunk: 3,276 records of 20 bytes.
 const CHUNK: usize = 65520;
 
-// The buffers of the programs.
-pub fn zeros<const N: usize>() -> [u8; N]
-    ensures { length result ≡ N }
-{
-    [0; N]
-}
-
 // What reading a chunk gave: so many bytes at the start of the buffer, those that were kept among them, and whether a read failed before the input
 // ended or the buffer was full.
 #[derive(Clone, Copy)]
