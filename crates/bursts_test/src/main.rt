@@ -5,7 +5,7 @@
 use access::Access;
 use card::Card;
 use case_bursts::Burst;
-use case_card::Head;
+use case_card::{Call, Head};
 
 // What an access has as its kind, A, B and C is of a burst its mode, its start, and how many phases and places it has.
 fn burst_of(reads: bool, q: Access) -> Burst {
@@ -21,14 +21,14 @@ fn burst_of(reads: bool, q: Access) -> Burst {
 
 fn answer_call(card: Card, shared: &mut [u8], window: &mut [u8]) -> Card {
     match case_card::read_call() {
-        (0, q) => {
+        (Call::Access, q) => {
             let outcome = device::access(card, shared, window, q);
             case_card::show_answer(outcome.answer);
             outcome.card
         }
         // No burst changes the record.
-        (what, q) => {
-            case_bursts::run(card, shared, window, burst_of(what == 3, q));
+        (call, q) => {
+            case_bursts::run(card, shared, window, burst_of(call == Call::Read, q));
             card
         }
     }

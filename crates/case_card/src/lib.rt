@@ -17,10 +17,26 @@ use transfer::{Request, Transfer};
 
 // READ
 
+// What a case asks for: calls to a record that it gives, or to a fresh card, or sources.
+#[derive(Clone, Copy, PartialEq, Eq)]
+pub enum Asked {
+    Record,
+    Fresh,
+    Sources,
+}
+
+fn asked_by(number: u32) -> Asked {
+    match number {
+        0 => Asked::Record,
+        2 => Asked::Sources,
+        _ => Asked::Fresh,
+    }
+}
+
 // What a case begins with.
 #[derive(Clone, Copy)]
 pub struct Head {
-    pub what: u32,
+    pub asked: Asked,
     pub settings: Settings,
     pub shared: u32,
     pub window: u32,
@@ -33,7 +49,7 @@ fn read_head() -> Option<Head> {
     let bytes = testing::read_case::<36>()?;
     let [what, base, length, lo, hi, shared, window, seed, count] = numbers::<9>(&bytes);
     Some(Head {
-        what,
+        asked: asked_by(what),
         settings: Settings {
             base,
             length,
@@ -129,8 +145,26 @@ fn read_card(settings: Settings) -> Card {
     }
 }
 
-// A call: 0 for an access, or what else has the numbers that an access has; and those numbers.
-pub fn read_call() -> (u32, Access) {
+// What is called: an access, a register access, a burst that writes or one that reads.
+#[derive(Clone, Copy, PartialEq, Eq)]
+pub enum Call {
+    Access,
+    Register,
+    Write,
+    Read,
+}
+
+fn called_by(number: u32) -> Call {
+    match number {
+        0 => Call::Access,
+        1 => Call::Register,
+        3 => Call::Read,
+        _ => Call::Write,
+    }
+}
+
+// What is called, and the numbers of an access, which stand for those of every call.
+pub fn read_call() -> (Call, Access) {
     let [packed, a, b, c] = numbers::<4>(&read_padded::<16>());
     let access = Access {
         kind: (packed % 256) as u8,
@@ -140,7 +174,7 @@ pub fn read_call() -> (u32, Access) {
         b,
         c,
     };
-    (packed / 16777216, access)
+    (called_by(packed / 16777216), access)
 }
 
 // The number of a memory's next byte.
@@ -160,8 +194,8 @@ fn fill(memory: &mut [u8], seed: u64) {
 // ANSWERED
 
 // The card of a case: a given record, or a fresh card, whose number is written.
-fn first_card(what: u32, settings: Settings) -> Card {
-    if what == 0 {
+fn first_card(asked: Asked, settings: Settings) -> Card {
+    if asked == Asked::Record {
         return read_card(settings);
     }
     match card::fresh(settings) {
@@ -185,7 +219,7 @@ pub fn run_calls<F: FnMut(Card, &mut [u8], &mut [u8]) -> Card>(
 )
     requires { F.IsAlwaysCallable call }
 {
-    let mut card = first_card(head.what, head.settings);
+    let mut card = first_card(head.asked, head.settings);
     for _ in 0..head.count {
         card = call(card, shared, window);
     }

@@ -4,14 +4,16 @@
 #![tactic(auto)]
 
 use card::Card;
-use case_card::Head;
+use case_card::{Asked, Call, Head};
 use settings::Settings;
 use testing::show_line;
 
 // L4: a call is an access, or a register access. Its answer is written.
 fn answer_call(card: Card, shared: &mut [u8], window: &mut [u8]) -> Card {
     let outcome = match case_card::read_call() {
-        (1, q) => registers::register_access(card, shared, window, q.side, q.a, q.kind, q.b),
+        (Call::Register, q) => registers::register_access(
+            card, shared, window, q.side, q.a, q.kind, q.b,
+        ),
         (_, q) => device::access(card, shared, window, q),
     };
     case_card::show_answer(outcome.answer);
@@ -27,7 +29,7 @@ fn answer_source(settings: Settings, shared: &[u8], window: &[u8]) {
 
 // A case asks for sources, or has calls to its card.
 fn answer_case(head: Head, shared: &mut [u8], window: &mut [u8]) {
-    if head.what == 2 {
+    if head.asked == Asked::Sources {
         for _ in 0..head.count {
             answer_source(head.settings, shared, window);
         }
