@@ -44,12 +44,7 @@ fn convert_next(
 
 // Chunk after chunk, from the beginning. The three programs that do so have a loop each: one that is handed a closure forgets what that does to the
 // buffers, of which `Ended` speaks.
-fn convert_input(
-    stdin: Stdin,
-    from: Form,
-    input: &mut [u8; 65520],
-    out: &mut [u8; 196605],
-) -> Turn
+fn convert_input(stdin: Stdin, from: Form, input: &mut [u8; 65520], out: &mut [u8; 196605]) -> Turn
     ensures ended { Ended from result input.new out.new }
     ensures count_bound { result.work.count + 1 < 2 ^ 64 }
 {
