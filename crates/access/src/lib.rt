@@ -97,6 +97,7 @@ pub enum Refusal {
 }
 
 impl Refusal {
+    // The discriminant, which a conversion by `From` would say no better.
     pub fn number(self) -> u8
         ensures { result ≡ number_of self }
     {
@@ -111,7 +112,7 @@ impl Refusal {
     }
 }
 
-// An access that does not use C.
+// An access that does not use C. Its kind is a byte, as in every access.
 pub fn asked(kind: u8, side: u8, s: u8, a: u32, b: u32) -> Access
     ensures { access_as result ≡ record { kind = kind; side = side; s = s; a = a; b = b; c = 0 } }
 {

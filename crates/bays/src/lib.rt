@@ -50,7 +50,8 @@ const ROWS: u8 = 4;
 
 const COLUMNS: u8 = 6;
 
-// "index = 4 x column + row, both from 0", "label = 6 x row + column + 1". An index that no bay has gets label 0.
+// "index = 4 x column + row, both from 0", "label = 6 x row + column + 1". An index that no bay has gets label 0, as the promise
+// says: a label is never 0 elsewhere, where an index may be.
 pub fn label(index: BayIndex) -> BayLabel
     ensures { result.0 ≡ label_at index.0 }
 {

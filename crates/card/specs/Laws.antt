@@ -171,8 +171,11 @@ row_passed k w q n p h = passed 2 (lit< tt) (row_of k w q).checks (row_ascending
 
 module _ (row : Row) (card : Card) (m w : List ℕ) {r : Outcome} {m' w' : List ℕ} (s : Settles row card m w r m' w') where
   -- refused, by the row's number
-  pub settled_refused : (f : Refusal) → r.answer ≡ Err f → number_of f ≡ refusal row.checks
-  settled_refused f e = sym (ap (λ (a : Result Done Refusal). (answer_as a).number) e) ∙ ap (λ o. o.answer.number) s.told ∙ settled_number (refusal row.checks) row.effect (world_as card m w)
+  pub settled_refused : (f : Refusal) → r.answer ≡ Err f → (number_of f ≡ refusal row.checks) × (number_of f ≡ 0 → ⊥)
+  settled_refused f e = (
+    sym (ap (λ (a : Result Done Refusal). (answer_as a).number) e) ∙ ap (λ o. o.answer.number) s.told ∙ settled_number (refusal row.checks) row.effect (world_as card m w),
+    λ z. let p = number_positive f in omega (arith, p, z),
+  )
 
   -- done, with the row's effect
   pub settled_done : (d : Done) → r.answer ≡ Ok d → (refusal row.checks ≡ 0) × Effected row.effect card r
@@ -190,4 +193,4 @@ module _ (row : Row) (card : Card) (m w : List ℕ) {r : Outcome} {m' w' : List 
     where
       by : (a : Result Done Refusal) → r.answer ≡ a → Effected row.effect card r
       by (Ok d) e = (settled_done d e).1
-      by (Err f) e = absurd (let p = number_positive f in let z = settled_refused f e ∙ h in omega (arith, p, z))
+      by (Err f) e = absurd (let p = number_positive f in let z = (settled_refused f e).0 ∙ h in omega (arith, p, z))

@@ -143,7 +143,7 @@ impl Card {
 // WHAT AN ACCESS GIVES
 
 impl Card {
-    // "Record and memories are unchanged."
+    // "Record and memories are unchanged." An outcome has the card on a refusal too, so that the kinds ask for their checks by `if let` and not by `?`.
     pub fn refused(self, refusal: Refusal) -> Outcome
         ensures { result ≡ record { card = self; answer = Err refusal } }
     {

@@ -29,12 +29,13 @@ fn read_number() -> u32 {
 
 fn read_phase() -> Phase {
     let [pins, dq] = testing::numbers::<2>(&testing::read_padded::<8>());
-    Phase { pins, dq }
+    Phase::new(pins, dq)
 }
 
 // The phases of a burst: so many are stored, and they come round again.
 fn read_phases(phases: &mut [Phase]) {
     let stored = read_number() as usize;
+    // By its place, since one looks back at another.
     for i in 0..phases.len() {
         phases[i] = if i < stored {
             read_phase()

@@ -25,11 +25,13 @@ pub enum Asked {
     Sources,
 }
 
-fn asked_by(number: u32) -> Asked {
-    match number {
-        0 => Asked::Record,
-        2 => Asked::Sources,
-        _ => Asked::Fresh,
+impl From<u32> for Asked {
+    fn from(number: u32) -> Asked {
+        match number {
+            0 => Asked::Record,
+            2 => Asked::Sources,
+            _ => Asked::Fresh,
+        }
     }
 }
 
@@ -49,7 +51,7 @@ fn read_head() -> Option<Head> {
     let bytes = testing::read_case::<36>()?;
     let [what, base, length, lo, hi, shared, window, seed, count] = numbers::<9>(&bytes);
     Some(Head {
-        asked: asked_by(what),
+        asked: Asked::from(what),
         settings: Settings {
             base,
             length,
@@ -154,27 +156,30 @@ pub enum Call {
     Read,
 }
 
-fn called_by(number: u32) -> Call {
-    match number {
-        0 => Call::Access,
-        1 => Call::Register,
-        3 => Call::Read,
-        _ => Call::Write,
+impl From<u8> for Call {
+    fn from(number: u8) -> Call {
+        match number {
+            0 => Call::Access,
+            1 => Call::Register,
+            3 => Call::Read,
+            _ => Call::Write,
+        }
     }
 }
 
 // What is called, and the numbers of an access, which stand for those of every call.
 pub fn read_call() -> (Call, Access) {
     let [packed, a, b, c] = numbers::<4>(&read_padded::<16>());
+    let [kind, side, s, call] = packed.to_le_bytes();
     let access = Access {
-        kind: (packed % 256) as u8,
-        side: (packed / 256 % 256) as u8,
-        s: (packed / 65536 % 256) as u8,
+        kind,
+        side,
+        s,
         a,
         b,
         c,
     };
-    (called_by(packed / 16777216), access)
+    (Call::from(call), access)
 }
 
 // The number of a memory's next byte.

@@ -92,8 +92,8 @@ fn turn_one(from: Form, input: &[u8], count: u64, out: &mut [u8], end: usize) ->
 }
 
 // Where a chunk's conversion stands: the bytes from `at` on are left, none behind a refusal; where the output ends, the accesses turned in all, and
-// whether a refusal has stopped it.
-#[derive(Clone, Copy)]
+// whether a refusal has stopped it, beside which the others hold too.
+#[derive(Clone, Copy, Default)]
 pub struct Converted {
     pub at: usize,
     pub end: usize,
@@ -116,11 +116,10 @@ pub fn convert_chunk(
     ensures count_bound { 12 * result.count ≤ 12 * start + length input.now }
 {
     let mut turned = Converted {
-        at: 0,
-        end: 0,
         count: start,
-        stopped: false,
+        ..Converted::default()
     };
+    // Each access has its own length.
     while input.len() - turned.at >= least {
         let step = turn_one(from, &input[turned.at..], turned.count, out, turned.end);
         turned.end = step.end;

@@ -1,5 +1,5 @@
 // Numbers in decimal, in lent bytes: a number is written with the byte after it, and read so. What is written is stored from a place on, and the place
-// after it given.
+// after it given: lent and told by themselves in every function that stores text, so that what follows may stand in another buffer.
 #![tactic(auto)]
 
 ghost use Rattle.std.specs.Prelude.{◌≡◌, false, [], ◌∷◌, ◌+◌, ◌<◌, ◌≤◌, length};

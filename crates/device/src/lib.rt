@@ -17,7 +17,8 @@ pub fn fits(card: Card, shared: usize, window: usize) -> bool
 }
 
 // "An access lends both memories and gets the new record back by value." A refusal hands back the very record and leaves
-// both memories; what is done is answered by `Ok`.
+// both memories; what is done is answered by `Ok`. Both memories are lent by
+// themselves, as document 01 orders: the promise speaks of each.
 pub fn access(card: Card, shared: &mut [u8], window: &mut [u8], q: Access) -> Outcome
     ensures window_after { outcome_as result shared.new window.new ≡ access (world_as card shared.old window.old) (access_as q) }
     ensures card_value { ((answer_as result.answer).number ≡ 0 → ⊥) → result.card ≡ card }
@@ -29,6 +30,7 @@ pub fn access(card: Card, shared: &mut [u8], window: &mut [u8], q: Access) -> Ou
     if 1 < q.side {
         return card.refused(Refusal::Unknown);
     }
+    // Document 01 orders one match on the kind's number, with a range for the refused rest: `access::Kind` has no name for that.
     match q.kind {
         0 => card::reset(card, q),
         1 => memory_access::shared_read(card, shared, q),

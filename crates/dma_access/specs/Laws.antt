@@ -42,7 +42,7 @@ module _ (c : Card) (m w : List ℕ) where
       pub start_refused : (f : Refusal) → o.answer ≡ Err f → Settles (write_row dmactl (world_as c m w) side dword) c m w (record { card = c; answer = Err f }) m w
       start_refused f e =
           refused_settles (write_row dmactl (world_as c m w) side dword) c m w {T = ⊤} (Err f) f refl
-          (settled_refused (start_row (world_as c m w) side (request_in (state_as c).dma dword)) c m w started f e)
+          (settled_refused (start_row (world_as c m w) side (request_in (state_as c).dma dword)) c m w started f e).0
 
       pub start_done : (done : Done) (k : Card) (d : Dma) → o.answer ≡ Ok done → dma_as d ≡ control_written side dword (dma_as c.dma) → state_as k ≡ with_dma (dma_as d) (state_as o.card) →
           Settles (write_row dmactl (world_as c m w) side dword) c m w (record { card = k; answer = Ok done }) m w

@@ -6,7 +6,8 @@ ghost use Rattle.model.specs.Fifos.{fresh_fifos, fifos_sound, entries_of};
 ghost use Rattle.model.specs.Why.{places};
 ghost use Rattle.fifos.specs.Bridge.{entries_as, fifos_as, put_on, put_as, taken_off, taken_as};
 
-// "Each FIFO holds 32 numbers of 32 bits": the first `count` entries, oldest first.
+// "Each FIFO holds 32 numbers of 32 bits": the first `count` entries, oldest first. An array with its count, as the record is copied by value and there is
+// no heap; a record handed in may have a count above 32, which is not sound.
 #[derive(Clone, Copy)]
 pub struct Fifo {
     pub entries: [u32; 32],

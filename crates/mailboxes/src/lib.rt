@@ -8,7 +8,8 @@ ghost use Rattle.mailboxes.specs.Bridge.{mailboxes_as};
 
 use bays::BayIndex;
 
-// "HLDATA (0x04E8) goes from host to local, LHDATA (0x04F8) back." `lhwritten`: LHDATA was written since reset.
+// "HLDATA (0x04E8) goes from host to local, LHDATA (0x04F8) back." `lhwritten`: LHDATA was written since reset. It
+// stands beside the data, as in the definition: data of either kind may have been written or not.
 #[derive(Clone, Copy, Default)]
 pub struct Mailboxes {
     pub hldata: u32,

@@ -35,7 +35,7 @@ fn check_window(settings: Settings, q: Access, b: u32) -> Result<(), Refusal>
     Refusal::Address.when(settings.outside_window(q.a, 4))
 }
 
-// READS AND WRITES
+// READS AND WRITES, of a memory each, whose checks and places differ
 
 // 1 shared read
 pub fn shared_read(card: Card, shared: &[u8], q: Access) -> Outcome
@@ -65,11 +65,10 @@ pub fn window_read(card: Card, window: &[u8], q: Access) -> Outcome
     requires { length window.now ≡ card.settings.length }
     ensures { (m : List ℕ) → Did model.window_read card q m window.now result m window.now }
 {
-    let settings = card.settings;
-    if let Err(refusal) = check_window(settings, q, q.b) {
+    if let Err(refusal) = check_window(card.settings, q, q.b) {
         return card.refused(refusal);
     }
-    card.done(lanes::read_dword(window, settings.offset(q.a), q.s), 0)
+    card.done(lanes::read_dword(window, card.settings.offset(q.a), q.s), 0)
 }
 
 // 4 window write
@@ -77,10 +76,9 @@ pub fn window_write(card: Card, window: &mut [u8], q: Access) -> Outcome
     requires { length window.old ≡ card.settings.length }
     ensures { (m : List ℕ) → Did model.window_write card q m window.old result m window.new }
 {
-    let settings = card.settings;
-    if let Err(refusal) = check_window(settings, q, 0) {
+    if let Err(refusal) = check_window(card.settings, q, 0) {
         return card.refused(refusal);
     }
-    lanes::write_dword(window, settings.offset(q.a), q.s, q.b);
+    lanes::write_dword(window, card.settings.offset(q.a), q.s, q.b);
     card.done(0, 0)
 }

@@ -5,6 +5,7 @@ use Rattle.std.proofs.Common.{ap, sym, ◌∙◌, arith, add-one, length-set, dr
 use Rattle.std.proofs.Math.Bool.{and_assoc, and-true, or-true}
 use Rattle.std.proofs.lemmas.List.{length-map}
 use Rattle.std.proofs.lemmas.List.Edits.{sets, sets-eq}
+use Rattle.std.proofs.lemmas.Bool.{not-true}
 use Rattle.std.proofs.lemmas.Bool.Decides.{nat_tests}
 use Rattle.std.specs.List.{fold}
 use Rattle.model.specs.Checks.{above}
@@ -76,6 +77,12 @@ module _ (mode d : ℕ) {a : Bool} {pins given : ℕ} (p : given ≡ pins) (h : 
   stayed e = rw (← p, ← h, e)
 
 -- the test of all phases, as the code gathers it
+-- where the pins of all phases fit, those of each do
+pub pins_at : (ps : List Phase) (i : ℕ) → pins_fit (phases_as ps) ≡ true → (get_or ps i no_phase).pins ≤ 15
+pins_at [] i h = omega arith
+pins_at (p ∷ ps) zero h = ltb-false 15 p.pins (not-true _ (and_left (not (above 15 p.pins)) (pins_fit (phases_as ps)) h))
+pins_at (p ∷ ps) (suc i) h = pins_at ps i (and_right (not (above 15 p.pins)) (pins_fit (phases_as ps)) h)
+
 pub all_fit : (fit : Bool) (ps : List Phase) → fold (λ (a : Bool) (p : Phase). a && leb p.pins 15) fit ps ≡ (fit && pins_fit (phases_as ps))
 all_fit fit [] = sym (and-true fit)
 all_fit fit (p ∷ ps) =

@@ -19,6 +19,14 @@ pub struct Phase {
     pub dq: u32,
 }
 
+impl Phase {
+    pub fn new(pins: u32, dq: u32) -> Phase
+        ensures { phase_as result ≡ record { pins = pins; dq = dq } }
+    {
+        Phase { pins, dq }
+    }
+}
+
 // Why a burst is not done to its end: refused, or stopped at a phase past the last dword, with the phases done before it.
 #[derive(Clone, Copy, PartialEq, Eq)]
 pub enum Stop {
@@ -150,6 +158,7 @@ pub fn write_phases(shared: &mut [u8], mode: u8, start: u32, phases: &[Phase]) -
     phases.len() as u32
 }
 
+// As `write_phases` goes along, but for what is lent: one walk of both, with the act handed in, would forget what that does to memory or list.
 // Reads the phases up to the first that stands past the last dword, each one's V into its place of the list, and answers how many were done.
 pub fn read_phases(shared: &[u8], mode: u8, start: u32, phases: &[Phase], list: &mut [u32]) -> u32
     requires { (length shared.now ≡ shared_length) × (length phases.now ≤ 65536) × (length phases.now ≤ length list.old) }

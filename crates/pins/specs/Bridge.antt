@@ -6,10 +6,13 @@ use Rattle.access.specs.declared.Refusal.{Refusal}
 use Rattle.access.specs.Bridge.{number_of}
 use Rattle.pins.specs.declared.Decoded.{Decoded}
 
--- "refused with 4, lanes 15, dword 0"
+-- "refused with 4, lanes 15, dword 0": what stands beside the number
+abbrev pub refused_decoded : Decoded
+refused_decoded = record { lanes = 15; dword = 0 }
+
 abbrev pub decoded_as : Result Decoded Refusal → model.Decoded
 decoded_as (Ok d) = record { number = 0; lanes = d.lanes; dword = d.dword }
-decoded_as (Err r) = record { number = number_of r; lanes = 15; dword = 0 }
+decoded_as (Err r) = record { number = number_of r; lanes = refused_decoded.lanes; dword = refused_decoded.dword }
 
 -- the lane mask that enables one lane alone
 abbrev pub one_lane : (lane : ℕ) → ℕ

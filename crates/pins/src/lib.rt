@@ -3,7 +3,7 @@
 
 ghost use Rattle.std.specs.Prelude.{◌≡◌, ◌≤◌, get_or};
 ghost use Rattle.model.specs.Pins.{lanes16, motorola_rows, lanes_of, decode};
-ghost use Rattle.pins.specs.Bridge.{decoded_as, one_lane, carried_in};
+ghost use Rattle.pins.specs.Bridge.{decoded_as, one_lane, carried_in, refused_decoded};
 
 use access::Refusal;
 
@@ -16,7 +16,7 @@ pub struct Decoded {
 impl Decoded {
     // What stands beside the number of a refusal: "lanes 15, dword 0".
     pub fn refused() -> Decoded
-        ensures { result ≡ record { lanes = 15; dword = 0 } }
+        ensures { result ≡ refused_decoded }
     {
         Decoded {
             lanes: lanes::NO_LANES,
@@ -61,7 +61,7 @@ fn lanes_motorola(pins: u8) -> u8
     }
 }
 
-// The lane mask of a mode and its pins. Mode 0: "BE[3:2] is A1 A0 and picks the one lane"; mode 3: "lanes are the pins".
+// The lane mask of a mode, a byte as `decode` is handed it, and its pins. Mode 0: "BE[3:2] is A1 A0 and picks the one lane"; mode 3: "lanes are the pins".
 fn mask(mode: u8, pins: u8) -> u8
     requires { (mode ≤ 3) × (pins ≤ 15) }
     ensures { result ≡ lanes_of mode pins }

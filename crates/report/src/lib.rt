@@ -1,5 +1,5 @@
 // The text of the replay and of the refusals, and the line for standard error: each function stores its text in a lent buffer from a place on, and
-// gives the place after it.
+// gives the place after it. Refusals come as numbers: any byte can be told.
 #![tactic(auto)]
 
 ghost use Rattle.std.specs.Prelude.{◌≡◌, ◌+◌, ◌≤◌, length};

@@ -20,7 +20,7 @@ const SKIPPED: u64 = 3;
 
 // ENTRIES
 
-// "Three numbers an entry": its case, its place, and its number or length.
+// Three numbers an entry: its case, its place, and its number or length.
 fn numbers_of(e: Entry) -> [u64; 3]
     ensures { result ≡ entry_numbers (entry_as e) }
 {
@@ -127,6 +127,7 @@ pub fn rescue(trace: &[u8], list: &mut [u64]) -> Result<usize, Refusal>
     ensures { rescued_as result list.new ≡ rescue trace.now list.old }
 {
     let mut s = Standing::default();
+    // From record to record, as `rescue_chunk` goes on: what it lists here may have no room, which ends the scan.
     while s.at < trace.len() {
         s = list_next(trace, list, s)?;
     }

@@ -50,7 +50,7 @@ fn write_range(output: Output, place: Place, out: &mut [u8], end: usize) -> usiz
 }
 
 // Where the rescue of a chunk stands: the bytes before `at` are passed, the output ends at `end`; the scan's place, and the entries that were listed.
-#[derive(Clone, Copy)]
+#[derive(Clone, Copy, Default)]
 pub struct Rescued {
     pub at: usize,
     pub end: usize,
@@ -160,6 +160,7 @@ pub fn rescue_chunk(
         place,
         tally,
     };
+    // From record to record.
     while s.at < to {
         s = write_next(output, input, to, out, s);
     }

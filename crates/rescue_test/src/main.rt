@@ -134,12 +134,7 @@ fn in_portions(
     };
     let mut last = Portion {
         size: 0,
-        rescued: Rescued {
-            at: 0,
-            end: 0,
-            place: Place::start(),
-            tally: Tally::none(),
-        },
+        rescued: Rescued::default(),
     };
     testing::each_portion(portion, bytes, |size, ended| {
         last = rescue_portion(output, last, size, ended, input, out);

@@ -43,7 +43,7 @@ fn first_record(bytes: &[u8], places: usize) -> Option<usize>
     }
 }
 
-// The first place from `at` on, and before `to`, where a record stands; `to` where there is none.
+// The first place from `at` on, and before `to`, where a record stands; `to` where there is none, a place too, which the promise names.
 pub fn next_record(bytes: &[u8], at: usize, to: usize) -> usize
     requires { (at ≤ to) × (to ≤ length bytes.now) }
     ensures { Ahead bytes.now at to result }

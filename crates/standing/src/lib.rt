@@ -11,7 +11,8 @@ use access::{Access, Answer};
 use card::Card;
 use settings::Settings;
 
-// Where a replay stands: the card, the record number expected, the records answered, and whether a refusal of the reader has stopped it.
+// Where a replay stands: the card, the record number expected, the records answered, and whether a refusal of the reader has stopped it, beside
+// which the others hold too.
 #[derive(Clone, Copy)]
 pub struct Standing {
     pub card: Card,

@@ -11,8 +11,8 @@ use std::io::{Read, Stdin};
 const CHUNK: usize = 65520;
 
 // What reading a chunk gave: so many bytes at the start of the buffer, those that were kept among them, and whether a read failed before the input
-// ended or the buffer was full.
-#[derive(Clone, Copy)]
+// ended or the buffer was full: the bytes were read all the same.
+#[derive(Clone, Copy, Default)]
 pub struct Chunk {
     pub size: usize,
     pub cut: bool,
@@ -90,6 +90,7 @@ pub fn read_chunk(mut stdin: Stdin, buffer: &mut [u8], kept: usize) -> Chunk
     ensures { Reads buffer.old kept result buffer.new }
 {
     let mut size = kept;
+    // A read gives as many bytes as it likes.
     while size < buffer.len() {
         let got = stdin.read(&mut buffer[size..]).ok();
         let Some(more @ 1..) = got else {
@@ -110,7 +111,7 @@ pub fn text(buffer: &[u8], end: usize) -> &[u8]
 
 // How a chunk went: what was read of it, where the work stands then, whether its text was lost in a write that failed, the records to be told of where
 // something failed, and whether more is to be read. Its fields are private: a turn comes from before the first chunk, or from a chunk behind a turn
-// that goes on.
+// that goes on. Each of the three flags may stand with any of the others.
 #[derive(Clone, Copy)]
 pub struct Turn<W> {
     chunk: Chunk,
@@ -126,10 +127,7 @@ impl<W: Copy> Turn<W> {
         ensures { result ≡ first_turn work }
     {
         Turn {
-            chunk: Chunk {
-                size: 0,
-                cut: false,
-            },
+            chunk: Chunk::default(),
             work,
             lost: false,
             told: 0,

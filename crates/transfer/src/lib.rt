@@ -9,7 +9,7 @@ ghost use Rattle.transfer.specs.Bridge.{request_as, transfer_as};
 
 use access::Refusal;
 
-// What a start asks for: S, A, B and C.
+// What a start asks for: S, A, B and C. The direction is a byte, as a caller hands it in: above 1 it is refused.
 #[derive(Clone, Copy)]
 pub struct Request {
     pub direction: u8,

@@ -27,10 +27,7 @@ fn read_trace(stdin: Stdin, asked: bool, input: &mut [u8; 131072]) -> Chunk
     if asked {
         return stream::read_chunk(stdin, input, 0);
     }
-    Chunk {
-        size: 0,
-        cut: false,
-    }
+    Chunk::default()
 }
 
 // What was read of the trace, and what stands in the output buffer.
