@@ -135,7 +135,7 @@ fn read_card(settings: Settings) -> Card {
     Card {
         settings,
         fifos: Fifos {
-            each: [read_fifo(), read_fifo(), read_fifo(), read_fifo()],
+            each: std::array::from_fn(|_| read_fifo()),
         },
         arbitration: Arbitration {
             pairs: numbers(&read_padded::<16>()).map(pair_of),

@@ -120,18 +120,14 @@ fn close(output: Output, last: Rescued, out: &mut [u8; OUTPUT])
     }
 }
 
+// Gives the number of records kept.
 fn in_portions(
-    how: u32,
+    output: Output,
     portion: u32,
     bytes: u32,
     input: &mut [u8; INPUT],
     out: &mut [u8; OUTPUT],
-) {
-    let output = if how == 1 {
-        Output::Entries
-    } else {
-        Output::Records
-    };
+) -> u64 {
     let mut last = Portion {
         size: 0,
         rescued: Rescued::default(),
@@ -140,10 +136,7 @@ fn in_portions(
         last = rescue_portion(output, last, size, ended, input, out);
     });
     close(output, last.rescued, out);
-    if how == 2 {
-        io::write_all(1, b"records ");
-        show(last.rescued.tally.kept, b'\n');
-    }
+    last.rescued.tally.kept
 }
 
 // ALL CASES
@@ -154,10 +147,18 @@ fn next_trace(input: &mut [u8; INPUT], out: &mut [u8; OUTPUT]) -> bool {
         return false;
     };
     let [how, argument, bytes] = testing::numbers::<3>(&head);
-    if how == 0 {
-        into_list(argument, testing::read_most(&mut input[..65000], bytes));
-    } else {
-        in_portions(how, argument, bytes, input, out);
+    match how {
+        0 => into_list(argument, testing::read_most(&mut input[..65000], bytes)),
+        1 => {
+            in_portions(Output::Entries, argument, bytes, input, out);
+        }
+        _ => {
+            let kept = in_portions(Output::Records, argument, bytes, input, out);
+            if how == 2 {
+                io::write_all(1, b"records ");
+                show(kept, b'\n');
+            }
+        }
     }
     true
 }

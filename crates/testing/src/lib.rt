@@ -71,7 +71,8 @@ pub fn each_portion<F: FnMut(u32, bool)>(asked: u32, bytes: u32, mut take: F)
     }
 }
 
-fn number(bytes: &[u8], place: usize) -> u32
+// The number with this place in a list of numbers of four bytes, least byte first; 0 behind its end.
+pub fn number_at(bytes: &[u8], place: usize) -> u32
     ensures { result ≡ number_at bytes.now place }
 {
     if bytes.len() / 4 <= place {
@@ -80,20 +81,13 @@ fn number(bytes: &[u8], place: usize) -> u32
     lanes::read_dword(bytes, 4 * place, lanes::ALL_LANES)
 }
 
-// The number with this place in a list of numbers of four bytes, least byte first; 0 behind its end.
-pub fn number_at(bytes: &[u8], place: u8) -> u32
-    ensures { result ≡ number_at bytes.now place }
-{
-    number(bytes, usize::from(place))
-}
-
 // The first numbers of such a list.
 pub fn numbers<const N: usize>(bytes: &[u8]) -> [u32; N]
     ensures { EachIndex result (λ k. slice_index result k ≡ number_at bytes.now k) }
 {
     let mut all = [0; N];
     for (i, each) in all.iter_mut().enumerate() {
-        *each = number(bytes, i);
+        *each = number_at(bytes, i);
     }
     all
 }

@@ -3,6 +3,7 @@
 
 ghost use Rattle.std.specs.Prelude.{◌≡◌, List, ◌++◌, ℕ, ◌+◌, ◌*◌, ◌≤◌, length, IfOk};
 ghost use Rattle.model.specs.WhyText.{by_record, holding_text, holding_lines, why_text, held_text, answer_text, why_output};
+ghost use Rattle.access.specs.Bridge.{number_of};
 ghost use Rattle.decimal.specs.Bridge.{Written, ReadWhole};
 ghost use Rattle.history.specs.Bridge.{holdings_from, told_as};
 ghost use Rattle.why_text.specs.Bridge.{count_of, Replied, end_of};
@@ -68,13 +69,13 @@ fn write_count(out: &mut [u8], count: u32) -> usize
 
 // "`why 42`."
 #[tactic(auto, using(model::proofs::TextLaws::digits_8, decimal::specs::Laws::then), unfolding(model::specs::WhyText::why_text))]
-fn write_refusal(out: &mut [u8], number: u8) -> usize
+fn write_refusal(out: &mut [u8], refusal: Refusal) -> usize
     requires { 8 ≤ length out.old }
-    ensures written { Written out.old 0 (why_text number) result out.new }
+    ensures written { Written out.old 0 (why_text (number_of refusal)) result out.new }
     ensures upper_bound { result ≤ 8 }
 {
     let p1 = write_word(out, 0, b"why ");
-    write_field(out, p1, number as u64, b'\n')
+    write_field(out, p1, refusal.number() as u64, b'\n')
 }
 
 // "`never raised`, `cleared by record 17`, or `set by record 4`; .. with entries held `set: 2 held` ..; a refusal is `why 42`."
@@ -87,7 +88,7 @@ pub fn write_answer(out: &mut [u8], answer: Result<Explanation, Refusal>) -> usi
 {
     let e = match answer {
         Ok(e) => e,
-        Err(refusal) => return write_refusal(out, refusal.number()),
+        Err(refusal) => return write_refusal(out, refusal),
     };
     match e.case {
         Case::Never => write_word(out, 0, b"never raised\n"),
