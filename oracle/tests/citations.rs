@@ -23,7 +23,7 @@ use std::path::{Path, PathBuf};
 const MAP: &str = "docs/ARCHITECTURE.md";
 const PROMISES: &str = "docs/PROMISES.md";
 /// They tell of the past, of names that are gone too.
-const PAST: [&str; 2] = ["docs/CHANGES.md", "docs/PORT.md"];
+const PAST: [&str; 3] = ["docs/CHANGES.md", "docs/DESIGN-PASS.md", "docs/PORT.md"];
 
 /// Names that stand for any name, where a document says how it cites.
 const PLACEHOLDERS: [&str; 6] = [
@@ -36,7 +36,14 @@ const PLACEHOLDERS: [&str; 6] = [
 ];
 
 /// Words of the languages, the tools and the replay's text.
-const WORDS: [&str; 11] = [
+const WORDS: [&str; 18] = [
+    "Err",
+    "From",
+    "None",
+    "Ok",
+    "Option",
+    "Result",
+    "Some",
     "end",
     "ensures",
     "log",
@@ -171,12 +178,12 @@ fn code_names(text: &str) -> Names {
             .collect();
         let at_margin = !line.starts_with([' ', '}', '/']);
         match (words.as_slice(), at_margin, &owner) {
-            (["impl", name, ..], true, _) => owner = Some(name.to_string()),
+            (["impl", ..], true, _) => owner = implemented(line),
             (["struct" | "enum", name, ..], true, _) => {
                 names.insert(name.to_string());
                 owner = Some(name.to_string());
             }
-            (["fn" | "const", name, ..], true, _) => {
+            (["fn" | "const" | "type", name, ..], true, _) => {
                 names.insert(name.to_string());
                 owner = None;
             }
@@ -189,6 +196,18 @@ fn code_names(text: &str) -> Names {
         }
     }
     names
+}
+
+/// The type that an `impl` is for: behind its own parameters, and of a trait's behind `for`.
+fn implemented(line: &str) -> Option<String> {
+    let mut depth = 0;
+    let at = line.find(|c: char| {
+        depth += i32::from(c == '<') - i32::from(c == '>');
+        depth == 0 && (c == ' ' || c == '>')
+    })?;
+    let of = line[at + 1..].split(" for ").last()?;
+    let name = of.trim().split(|c: char| !is_part_of_item(c)).next()?;
+    Some(name.to_string())
 }
 
 /// One step inside of a type or of its functions, and not deeper.
@@ -688,15 +707,21 @@ fn declarations_of_code() {
     let text = "// a card\n\
                 pub struct Card {\n    pub base: u32,\n}\n\n\
                 impl Card {\n    // raises\n    pub fn raise(self) -> Card\n        ensures { a }\n    {\n        let x = 1;\n    }\n}\n\n\
+                impl<W: Copy> Turn<W> {\n    pub fn first(work: W) -> Turn<W> {\n    }\n}\n\n\
+                impl From<u8> for Bay {\n    fn from(byte: u8) -> Bay {\n    }\n}\n\n\
                 pub enum Read {\n    Refused(u8),\n}\n\n\
+                pub type Answer = Result<Done, Refusal>;\n\n\
                 pub const LIMIT: u8 = 3;\n\n\
                 pub fn fresh(base: u32) -> Card\n{\n    let y = base;\n}\n";
     let declared = [
         "Card",
         "Card::base",
         "Card::raise",
+        "Turn::first",
+        "Bay::from",
         "Read",
         "Read::Refused",
+        "Answer",
         "LIMIT",
         "fresh",
     ];

@@ -4,7 +4,7 @@
 ghost use Rattle.std.specs.Prelude.{◌≡◌, [], ◌∷◌, ◌<◌, if◌then◌else◌};
 ghost use Rattle.model.specs.Checks.{refusal, ◌for◌, misplaced, nonzero};
 ghost use Rattle.model.specs.Sides.{side_of, other, not_by};
-ghost use Rattle.access.specs.Bridge.{access_as};
+ghost use Rattle.access.specs.Bridge.{access_as, number_of, refused_when, refusal_as};
 
 // "Kind, side and selector S are bytes; A, B, C, V and X are 32-bit numbers."
 #[derive(Clone, Copy)]
@@ -17,12 +17,37 @@ pub struct Access {
     pub c: u32,
 }
 
-// V and X where the access is done; else the number of the refusal.
-#[derive(Clone, Copy)]
-pub enum Answer {
-    Done(u32, u32),
-    Refused(u8),
+// The seventeen kinds by name, for the accesses that a register access and ARBUTIL ask for. What a caller asks for is a byte, which names one of them or none.
+#[derive(Clone, Copy, PartialEq, Eq)]
+pub enum Kind {
+    Reset = 0,
+    SharedRead = 1,
+    SharedWrite = 2,
+    WindowRead = 3,
+    WindowWrite = 4,
+    Take = 5,
+    Put = 6,
+    Claim = 7,
+    Release = 8,
+    MailboxWrite = 9,
+    MailboxRead = 10,
+    InterruptRead = 11,
+    InterruptWrite = 12,
+    Line = 13,
+    Start = 14,
+    Step = 15,
+    ExternalPin = 16,
 }
+
+// "V and X", where the access is done.
+#[derive(Clone, Copy)]
+pub struct Done {
+    pub v: u32,
+    pub x: u32,
+}
+
+// Done, or refused.
+pub type Answer = Result<Done, Refusal>;
 
 // "Side 0 is the host, side 1 the local processor."
 pub const HOST: u8 = 0;
@@ -35,73 +60,68 @@ pub const SHARED_LENGTH: u64 = 16384;
 pub const PCI_LENGTH: u64 = 4294967296;
 
 // "Numbers a caller sees": one name for each refusal.
-pub const UNFIT: u8 = 1;
+#[derive(Clone, Copy, PartialEq, Eq)]
+pub enum Refusal {
+    Unfit = 1,
+    Unknown = 2,
+    UnusedField = 3,
+    Selector = 4,
+    WrongSide = 5,
+    Busy = 6,
+    EmptyTransfer = 7,
+    Size = 8,
+    Address = 9,
+    NotRunning = 10,
+    // L4: an offset that is no multiple of 4, or not modelled.
+    Unmodelled = 11,
+    // L10: a mode of 2 or above 3, or more than 65,536 phases; a phase past the last dword; a read list shorter than the phases.
+    NoBurst = 12,
+    Overrun = 13,
+    ShortList = 14,
+    // The trace reader's.
+    ShortRecord = 20,
+    WrongMark = 21,
+    RecordNumber = 22,
+    ZeroByte = 23,
+    // The record writer's.
+    NoRoom = 24,
+    // The line reader's.
+    NoLine = 25,
+    // L7: a trace that the reader refuses, or of more than 81,920 bytes; a position above 9 or reserved there; a side above 1.
+    RefusedTrace = 40,
+    LongTrace = 41,
+    Reserved = 42,
+    NoSide = 43,
+    // The rescue's.
+    ListFull = 60,
+}
 
-pub const UNKNOWN: u8 = 2;
+impl Refusal {
+    // The discriminant, which a conversion by `From` would say no better.
+    pub fn number(self) -> u8
+        ensures { result ≡ number_of self }
+    {
+        self as u8
+    }
 
-pub const UNUSED_FIELD: u8 = 3;
+    // A numbered check, before later ones: refused where its cause holds.
+    pub fn when(self, cause: bool) -> Result<(), Refusal>
+        ensures { result ≡ refused_when self cause }
+    {
+        if cause { Err(self) } else { Ok(()) }
+    }
+}
 
-pub const SELECTOR: u8 = 4;
-
-pub const WRONG_SIDE: u8 = 5;
-
-pub const BUSY: u8 = 6;
-
-pub const EMPTY_TRANSFER: u8 = 7;
-
-pub const SIZE: u8 = 8;
-
-pub const ADDRESS: u8 = 9;
-
-pub const NOT_RUNNING: u8 = 10;
-
-// L4: an offset that is no multiple of 4, or not modelled.
-pub const UNMODELLED: u8 = 11;
-
-// L10: a mode of 2 or above 3, or more than 65,536 phases; a phase past the last dword; a read list shorter than the phases.
-pub const NO_BURST: u8 = 12;
-
-pub const OVERRUN: u8 = 13;
-
-pub const SHORT_LIST: u8 = 14;
-
-// The trace reader's.
-pub const SHORT_RECORD: u8 = 20;
-
-pub const WRONG_MARK: u8 = 21;
-
-pub const RECORD_NUMBER: u8 = 22;
-
-pub const ZERO_BYTE: u8 = 23;
-
-// The record writer's.
-pub const NO_ROOM: u8 = 24;
-
-// The line reader's.
-pub const NO_LINE: u8 = 25;
-
-// L7: a trace that the reader refuses, or of more than 81,920 bytes; a position above 9 or reserved there; a side above 1.
-pub const REFUSED_TRACE: u8 = 40;
-
-pub const LONG_TRACE: u8 = 41;
-
-pub const RESERVED: u8 = 42;
-
-pub const NO_SIDE: u8 = 43;
-
-// The rescue's.
-pub const LIST_FULL: u8 = 60;
-
-// An access that does not use C.
+// An access that does not use C. Its kind is a byte, as in every access.
 pub fn asked(kind: u8, side: u8, s: u8, a: u32, b: u32) -> Access
     ensures { access_as result ≡ record { kind = kind; side = side; s = s; a = a; b = b; c = 0 } }
 {
     Access {
-        kind: kind,
-        side: side,
-        s: s,
-        a: a,
-        b: b,
+        kind,
+        side,
+        s,
+        a,
+        b,
         c: 0,
     }
 }
@@ -111,13 +131,6 @@ pub fn other_side(side: u8) -> u8
     ensures { (side_of result ≡ other (side_of side)) × (result < 2) }
 {
     if side == HOST { LOCAL } else { HOST }
-}
-
-// A numbered check before later ones: its number where its cause holds, else what they gave.
-pub fn when(number: u8, cause: bool, later: u8) -> u8
-    ensures { result ≡ (if cause then number else later) }
-{
-    if cause { number } else { later }
 }
 
 // Cause 5: the caller is another than the one side that may.
@@ -148,15 +161,15 @@ pub fn misplaced(at: u32, count: u32, lo: u64, hi: u64) -> bool
 }
 
 // Kinds 0, 10, 11 and 13 have cause 3 alone, of all four fields.
-pub fn no_field(q: Access) -> u8
-    ensures { result ≡ refusal ((3 for nonzero (q.s ∷ q.a ∷ q.b ∷ q.c ∷ [])) ∷ []) }
+pub fn no_field(q: Access) -> Result<(), Refusal>
+    ensures { refusal_as result ≡ refusal ((3 for nonzero (q.s ∷ q.a ∷ q.b ∷ q.c ∷ [])) ∷ []) }
 {
-    when(UNUSED_FIELD, nonzero(q.s, q.a, q.b, q.c), 0)
+    Refusal::UnusedField.when(nonzero(q.s, q.a, q.b, q.c))
 }
 
 // Kinds 9 and 12 use B.
-pub fn value_only(q: Access) -> u8
-    ensures { result ≡ refusal ((3 for nonzero (q.s ∷ q.a ∷ q.c ∷ [])) ∷ []) }
+pub fn value_only(q: Access) -> Result<(), Refusal>
+    ensures { refusal_as result ≡ refusal ((3 for nonzero (q.s ∷ q.a ∷ q.c ∷ [])) ∷ []) }
 {
-    when(UNUSED_FIELD, nonzero(q.s, q.a, 0, q.c), 0)
+    Refusal::UnusedField.when(nonzero(q.s, q.a, 0, q.c))
 }

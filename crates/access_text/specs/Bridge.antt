@@ -1,11 +1,11 @@
 -- What contracts of access_text cite: half a line, three numbers; what is read where a line should stand, as the model's reading, and where the line ends.
-use Rattle.std.specs.Prelude.{◌≡◌, true, false, List, [], ◌∷◌, ◌++◌, ℕ, ◌+◌, ◌≤◌, length, drop}
+use Rattle.std.specs.Prelude.{◌≡◌, Option, Some, None, Result, Ok, Err, List, [], ◌∷◌, ◌++◌, ℕ, ◌+◌, ◌≤◌, length, drop}
 use Rattle.model.specs.Trace as model
 use Rattle.model.specs.Text.{field_text, Field, ◌ended_by◌}
 use Rattle.model.specs.AccessText.{access_line, read_fields}
-use Rattle.access.specs.Bridge.{access_as}
+use Rattle.access.specs.declared.Refusal.{Refusal}
+use Rattle.access.specs.Bridge.{access_as, number_of}
 use Rattle.access_text.specs.declared.Line.{Line}
-use Rattle.access_text.specs.declared.Line.TheVariants as line
 use Rattle.access_text.specs.declared.Three.{Three}
 
 -- HALF A LINE: three fields of one width
@@ -26,20 +26,17 @@ pub record Read (text : List ℕ) (at largest last x y z next : ℕ) : Type 0 wh
 abbrev pub Unread : (text : List ℕ) (at largest last : ℕ) → Type 0
 Unread text at largest last = (fs : List Field) (ns : List ℕ) → read_fields (three_fields largest last fs) ns (drop at text) ≡ model.refused 25
 
-abbrev pub no_three : Three
-no_three = record { stand = false; x = 0; y = 0; z = 0; next = 0 }
-
-pub record ThreeAt (text : List ℕ) (at largest last : ℕ) (r : Three) : Type 0 where
-  pub read : r.stand ≡ true → Read text at largest last r.x r.y r.z r.next
-  pub none : r.stand ≡ false → Unread text at largest last
+abbrev pub ThreeAt : (text : List ℕ) (at largest last : ℕ) → Option Three → Type 0
+ThreeAt text at largest last (Some r) = Read text at largest last r.x r.y r.z r.next
+ThreeAt text at largest last None = Unread text at largest last
 
 -- A LINE
 
-abbrev pub line_as : Line → model.Reading
-line_as (line.Access q n) = model.recorded (access_as q)
-line_as (line.Refused n) = model.refused n
+abbrev pub line_as : Result Line Refusal → model.Reading
+line_as (Ok l) = model.recorded (access_as l.access)
+line_as (Err r) = model.refused (number_of r)
 
 -- the bytes of the line
-abbrev pub Ends : Line → Type 0
-Ends (line.Access q n) = n ≡ length (access_line (access_as q))
-Ends (line.Refused n) = Unit {0}
+abbrev pub Ends : Result Line Refusal → Type 0
+Ends (Ok l) = l.length ≡ length (access_line (access_as l.access))
+Ends (Err r) = Unit {0}

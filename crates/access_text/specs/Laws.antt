@@ -1,27 +1,29 @@
 -- How long half a line is; and a line read field by field, from one place to the next.
-use Rattle.std.specs.Prelude.{◌≡◌, true, false, ℕ, ◌+◌, ◌^◌, ◌<◌, ◌≤◌, length, drop}
+use Rattle.std.specs.Prelude.{◌≡◌, Option, Some, None, Ok, Err, ok_or, ℕ, ◌+◌, ◌^◌, ◌<◌, ◌≤◌, length, drop}
 use Rattle.std.proofs.Math.Path.{sym}
 use Rattle.std.proofs.Common.{◌∙◌, arith, drop-drop}
 use mathlib.Core.List.{List, [], ◌∷◌, ◌++◌, append_assoc, append-nil}
 use Rattle.std.proofs.Math.ListN.{length-append}
-use Rattle.model.proofs.TestLaws.{no_both}
 use Rattle.model.specs.Accesses.{Access}
 use Rattle.model.specs.Trace.{recorded, refused}
-use Rattle.model.specs.Text.{decimal_text, field_text, Field, ◌ended_by◌}
+use Rattle.model.specs.Text.{decimal_text, field_text, Field}
 use Rattle.model.proofs.TextLaws.{digits_8, digits_32}
 use Rattle.model.specs.AccessText.{access_of_numbers, access_line, read_fields, read_line}
-use Rattle.decimal.specs.declared.FieldRead.{FieldRead}
+use Rattle.decimal.specs.declared.Field as decimal
 use Rattle.decimal.specs.Bridge.{ReadAt}
-use Rattle.access_text.specs.Bridge.{three_text, three_fields, Read, Unread, no_three, ThreeAt}
+use Rattle.access.specs.declared.Refusal.{Refusal}
+use Rattle.access.specs.declared.Refusal.TheVariants.{NoLine}
+use Rattle.access_text.specs.declared.Three.{Three}
+use Rattle.access_text.specs.Bridge.{three_text, three_fields, Read, Unread, ThreeAt}
 
-module _ {text : List ℕ} {at : ℕ} {f : Field} (fs : List Field) (ns : List ℕ) (r : FieldRead) (a : ReadAt text at f r) where
+module _ {text : List ℕ} {at : ℕ} {f : Field} (fs : List Field) (ns : List ℕ) where
   -- a field more
-  pub field_more : r.stands ≡ true → read_fields (f ∷ fs) ns (drop at text) ≡ read_fields fs (ns ++ (r.number ∷ [])) (drop r.next text)
-  field_more e = rw (← a.read, e, drop-drop (length (field_text r.number f.after)) at text, ← (a.behind e).place)
+  pub field_more : (r : decimal.Field) → ReadAt text at f (Some r) → read_fields (f ∷ fs) ns (drop at text) ≡ read_fields fs (ns ++ (r.number ∷ [])) (drop r.next text)
+  field_more r a = rw (← a.read, drop-drop (length (field_text r.number f.after)) at text, ← a.behind.place)
 
   -- none
-  pub field_none : r.stands ≡ false → read_fields (f ∷ fs) ns (drop at text) ≡ refused 25
-  field_none e = rw (← a.read, e)
+  pub field_none : ReadAt text at f None → read_fields (f ∷ fs) ns (drop at text) ≡ refused 25
+  field_none a = rw (← a.read)
 
 -- HALF A LINE
 
@@ -39,44 +41,6 @@ dwords_room x y z last f g h = omega (arith, three_length x y z last, digits_32 
 pub halves : (q : Access) → three_text q.kind q.side q.s 32 ++ three_text q.a q.b q.c 10 ≡ access_line q
 unfolding access_line
 halves q = simp (append_assoc, append-nil)
-
-module _ {text : List ℕ} {at largest last : ℕ} (x : FieldRead) (a : ReadAt text at (largest ended_by 32) x) where
-  -- no first number, no second or no third
-  pub none_first : x.stands ≡ false → ThreeAt text at largest last no_three
-  none_first e = record { read = λ z. no_both z; none = λ z fs ns. field_none (largest ended_by 32 ∷ largest ended_by last ∷ fs) ns x a e }
-
-  module _ (e : x.stands ≡ true) (y : FieldRead) (b : ReadAt text x.next (largest ended_by 32) y) where
-    pub none_second : y.stands ≡ false → ThreeAt text at largest last no_three
-    none_second f = record {
-      read = λ z. no_both z;
-      none = λ z fs ns. field_more (largest ended_by 32 ∷ largest ended_by last ∷ fs) ns x a e ∙ field_none (largest ended_by last ∷ fs) (ns ++ (x.number ∷ [])) y b f;
-    }
-
-    module _ (f : y.stands ≡ true) (z : FieldRead) (c : ReadAt text y.next (largest ended_by last) z) where
-      two : (fs : List Field) (ns : List ℕ) →
-          read_fields (three_fields largest last fs) ns (drop at text) ≡ read_fields (largest ended_by last ∷ fs) (ns ++ (x.number ∷ []) ++ (y.number ∷ [])) (drop y.next text)
-      two fs ns =
-          field_more (largest ended_by 32 ∷ largest ended_by last ∷ fs) ns x a e ∙ field_more (largest ended_by last ∷ fs) (ns ++ (x.number ∷ [])) y b f
-
-      pub none_third : z.stands ≡ false → ThreeAt text at largest last no_three
-      none_third g = record { read = λ z. no_both z; none = λ w fs ns. two fs ns ∙ field_none fs (ns ++ (x.number ∷ []) ++ (y.number ∷ [])) z c g }
-
-      pub three_read : z.stands ≡ true → ThreeAt text at largest last (record { stand = true; x = x.number; y = y.number; z = z.number; next = z.next })
-      three_read g =
-          let p = a.behind e in
-          let q = b.behind f in
-          let r = c.behind g in
-          let stand : Read text at largest last x.number y.number z.number z.next =
-          record {
-            fit = (p.fits, q.fits, r.fits);
-            place = simp length-append (omega (arith, simp length-append at p.place, simp length-append at q.place, simp length-append at r.place));
-            line = λ fs ns.
-                two fs ns
-                ∙ field_more fs (ns ++ (x.number ∷ []) ++ (y.number ∷ [])) z c g
-                ∙ rw (append_assoc (ns ++ (x.number ∷ [])) (y.number ∷ []) (z.number ∷ []), append_assoc ns (x.number ∷ []) (y.number ∷ z.number ∷ []));
-          }
-          in
-          record { read = λ w. stand; none = λ w. no_both (sym w) }
 
 -- A LINE
 
@@ -96,3 +60,19 @@ module _ (text : List ℕ) where
   pub line_none_second : {kind side s p : ℕ} → Read text 0 255 32 kind side s p → Unread text p 4294967295 10 → refused 25 ≡ read_line text
   unfolding read_line
   line_none_second {kind} {side} {s} f g = sym (f.line (three_fields 4294967295 10 []) [] ∙ g [] (kind ∷ side ∷ s ∷ []))
+
+-- three numbers or the refusal: what is known where it is the numbers, and where it is the refusal
+module _ (text : List ℕ) (at largest last : ℕ) (r : Option Three) (a : ThreeAt text at largest last r) where
+  pub when_read : (x : Three) → Ok x ≡ ok_or r NoLine → Read text at largest last x.x x.y x.z x.next
+  when_read x e = by r a e
+    where
+      by : (r : Option Three) → ThreeAt text at largest last r → Ok x ≡ ok_or r NoLine → Read text at largest last x.x x.y x.z x.next
+      by (Some y) b e = let same : y ≡ x = cc in rw same at b
+      by None b e = cc
+
+  pub when_none : (n : Refusal) → Err n ≡ ok_or r NoLine → Unread text at largest last × (n ≡ NoLine)
+  when_none n e = by r a e
+    where
+      by : (r : Option Three) → ThreeAt text at largest last r → Err n ≡ ok_or r NoLine → Unread text at largest last × (n ≡ NoLine)
+      by (Some y) b e = cc
+      by None b e = (b, cc)

@@ -6,15 +6,15 @@ ghost use Rattle.model.specs.Text.{is_digit};
 ghost use Rattle.model.specs.AccessText.{access_line, read_line};
 ghost use Rattle.access.specs.Bridge.{access_as};
 ghost use Rattle.decimal.specs.Bridge.{Written};
-ghost use Rattle.access_text.specs.Bridge.{three_text, no_three, ThreeAt, line_as, Ends};
+ghost use Rattle.access_text.specs.Bridge.{three_text, ThreeAt, line_as, Ends};
 
-use access::Access;
+use access::{Access, Refusal};
 
-// What is read where a line should stand: the access and how many bytes its line has, or the refusal's number alone.
+// A line that is read: the access, and how many bytes its line has.
 #[derive(Clone, Copy)]
-pub enum Line {
-    Access(Access, usize),
-    Refused(u8),
+pub struct Line {
+    pub access: Access,
+    pub length: usize,
 }
 
 // "Single spaces", "each ended by a line feed".
@@ -47,68 +47,39 @@ pub fn write_line(out: &mut [u8], at: usize, q: Access) -> usize
     write_three(out, p, q.a as u64, q.b as u64, q.c as u64, LINE_FEED)
 }
 
-// Three numbers: whether they stand there, and the place behind the byte after the third.
+// Three numbers, and the place behind the byte after the third.
 #[derive(Clone, Copy)]
 struct Three {
-    stand: bool,
     x: u64,
     y: u64,
     z: u64,
     next: usize,
 }
 
-fn unreadable() -> Three
-    ensures { result ≡ no_three }
-{
-    Three {
-        stand: false,
-        x: 0,
-        y: 0,
-        z: 0,
-        next: 0,
-    }
-}
-
 // Reads three numbers of at most `largest` from a place of the text on.
-fn read_three(text: &[u8], at: usize, largest: u32, last: u8) -> Three
+fn read_three(text: &[u8], at: usize, largest: u32, last: u8) -> Option<Three>
     requires { is_digit last ≡ false }
     ensures { ThreeAt text.now at largest last result }
 {
-    let x = decimal::read_field(text, at, largest, SPACE);
-    if !x.stands {
-        return unreadable();
-    }
-    let y = decimal::read_field(text, x.next, largest, SPACE);
-    if !y.stands {
-        return unreadable();
-    }
-    let z = decimal::read_field(text, y.next, largest, last);
-    if !z.stands {
-        return unreadable();
-    }
-    Three {
-        stand: true,
+    let x = decimal::read_field(text, at, largest, SPACE)?;
+    let y = decimal::read_field(text, x.next, largest, SPACE)?;
+    let z = decimal::read_field(text, y.next, largest, last)?;
+    Some(Three {
         x: x.number,
         y: y.number,
         z: z.number,
         next: z.next,
-    }
+    })
 }
 
 // Reads the line at the start of the text; what follows it is not looked at. "25, a text line not in that form."
-pub fn read_line(text: &[u8]) -> Line
+pub fn read_line(text: &[u8]) -> Result<Line, Refusal>
     ensures result_value { line_as result ≡ read_line text.now }
     ensures ends { Ends result }
 {
-    let bytes = read_three(text, 0, LARGEST_BYTE, SPACE);
-    if !bytes.stand {
-        return Line::Refused(access::NO_LINE);
-    }
-    let dwords = read_three(text, bytes.next, LARGEST_DWORD, LINE_FEED);
-    if !dwords.stand {
-        return Line::Refused(access::NO_LINE);
-    }
-    let q = Access {
+    let bytes = read_three(text, 0, LARGEST_BYTE, SPACE).ok_or(Refusal::NoLine)?;
+    let dwords = read_three(text, bytes.next, LARGEST_DWORD, LINE_FEED).ok_or(Refusal::NoLine)?;
+    let access = Access {
         kind: bytes.x as u8,
         side: bytes.y as u8,
         s: bytes.z as u8,
@@ -116,5 +87,8 @@ pub fn read_line(text: &[u8]) -> Line
         b: dwords.y as u32,
         c: dwords.z as u32,
     };
-    Line::Access(q, dwords.next)
+    Ok(Line {
+        access,
+        length: dwords.next,
+    })
 }

@@ -1,10 +1,13 @@
--- One of the four pairs, read and replaced; all four, as a register shows them.
-use Rattle.std.specs.Prelude.{◌≡◌, Bool, false, List, map, ℕ, ◌+◌, ◌*◌, length, get_or, set}
-use Rattle.std.proofs.Common.{ap, sym, ◌∙◌, arith}
+-- One of the four pairs, read and replaced; all four, tested.
+use Rattle.std.specs.Prelude.{◌≡◌, refl, Bool, false, ◌&&◌, List, [], ◌∷◌, map, ℕ, length, get_or, set}
+use Rattle.std.specs.List.{list_all}
+use Rattle.std.proofs.Common.{ap, sym, ◌∙◌}
+use Rattle.std.proofs.lemmas.List.{length-map}
 use Rattle.std.proofs.Math.ListN.{get_or-map}
 use Rattle.model.specs.Sides.{Side}
-use Rattle.model.specs.Arbitration.{pair_of, with_flag, with_flag_of, pair_value, flags_value}
-use Rattle.model.proofs.FourLaws.{four, map_set}
+use Rattle.model.specs.Arbitration.{pair_of, with_flag, with_flag_of, pair_sound, arbitration_sound}
+use Rattle.model.specs.Choice.{every}
+use Rattle.model.proofs.FourLaws.{map_set}
 use Rattle.arbitration.specs.declared.Pair.{Pair}
 use Rattle.arbitration.specs.Bridge.{pair_as}
 
@@ -20,9 +23,10 @@ module _ (pairs : List Pair) (i : ℕ) where
       map pair_as (set pairs i p) ≡ with_flag_of side i b (map pair_as pairs)
   flag_set side b p h = map_set pair_as pairs i p ∙ ap (set (map pair_as pairs) i) (h ∙ ap (with_flag side b) (sym pair_at))
 
-abbrev value_at : List Pair → (i : ℕ) → ℕ
-value_at l i = pair_value (pair_as (get_or l i no_pair))
+-- a test of every pair is the test of all
+all_pass : (l : List Pair) → list_all (λ (p : Pair). pair_sound (pair_as p)) l ≡ every pair_sound (map pair_as l)
+all_pass [] = refl
+all_pass (p ∷ l) = ap (pair_sound (pair_as p) &&◌) (all_pass l)
 
-pub four_values : (l : List Pair) → length l ≡ 4 → value_at l 0 + 256 * (value_at l 1 + 256 * (value_at l 2 + 256 * value_at l 3)) ≡ flags_value (map pair_as l)
-four_values =
-    four (λ l. value_at l 0 + 256 * (value_at l 1 + 256 * (value_at l 2 + 256 * value_at l 3)) ≡ flags_value (map pair_as l)) (λ a b c d. omega arith)
+pub all_sound : (pairs : List Pair) → length pairs ≡ 4 → list_all (λ (p : Pair). pair_sound (pair_as p)) pairs ≡ arbitration_sound (map pair_as pairs)
+all_sound pairs len = all_pass pairs ∙ rw (length-map, len)

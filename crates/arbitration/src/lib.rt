@@ -1,12 +1,12 @@
 // Document 01, "FIFOs and flags": the four pairs of arbitration flags by value.
 #![tactic(auto)]
 
-ghost use Rattle.std.specs.Prelude.{◌≡◌, map, ◌≤◌, ◌<◌, if◌then◌else◌};
+ghost use Rattle.std.specs.Prelude.{◌≡◌, ◌≤◌, ◌<◌, if◌then◌else◌};
 ghost use Rattle.model.specs.Sides.{side_of, other};
 ghost use Rattle.model.specs.Arbitration.{pair_sound, arbitration_sound, fresh_arbitration, pair_of, flag, with_flag, with_flag_of, pair_value, flags_value};
 ghost use Rattle.arbitration.specs.Bridge.{pair_as, arbitration_as};
 
-#[derive(Clone, Copy)]
+#[derive(Clone, Copy, Default)]
 pub struct Pair {
     pub host: bool,
     pub local: bool,
@@ -40,15 +40,9 @@ impl Pair {
         ensures { pair_as result ≡ with_flag (side_of side) set (pair_as self) }
     {
         if side == access::HOST {
-            Pair {
-                host: set,
-                local: self.local,
-            }
+            Pair { host: set, ..self }
         } else {
-            Pair {
-                host: self.host,
-                local: set,
-            }
+            Pair { local: set, ..self }
         }
     }
 }
@@ -71,43 +65,20 @@ impl Pair {
     }
 }
 
-// There are four, since the array has so many.
-fn all_sound(pairs: [Pair; 4]) -> bool
-    ensures { result ≡ arbitration_sound (map pair_as pairs) }
-{
-    let p0 = pairs[0];
-    let p1 = pairs[1];
-    let p2 = pairs[2];
-    let p3 = pairs[3];
-    p0.sound() & (p1.sound() & (p2.sound() & p3.sound()))
-}
-
-fn all_values(pairs: [Pair; 4]) -> u32
-    ensures { result ≡ flags_value (map pair_as pairs) }
-{
-    let p0 = pairs[0];
-    let p1 = pairs[1];
-    let p2 = pairs[2];
-    let p3 = pairs[3];
-    p0.value() + 256 * (p1.value() + 256 * (p2.value() + 256 * p3.value()))
-}
-
 impl Arbitration {
     pub fn fresh() -> Arbitration
         ensures { arbitration_as result ≡ fresh_arbitration }
     {
-        let pair = Pair {
-            host: false,
-            local: false,
-        };
-        Arbitration { pairs: [pair; 4] }
+        Arbitration {
+            pairs: [Pair::default(); 4],
+        }
     }
 
+    // There are four, since the array has so many.
     pub fn sound(self) -> bool
         ensures { result ≡ arbitration_sound (arbitration_as self) }
     {
-        let pairs = self.pairs;
-        all_sound(pairs)
+        self.pairs.iter().all(|pair| pair.sound())
     }
 
     // The other side's flag of a pair.
@@ -115,27 +86,22 @@ impl Arbitration {
         requires { i < 4 }
         ensures { result ≡ flag (other (side_of side)) (pair_of (arbitration_as self) i) }
     {
-        let pairs = self.pairs;
-        let pair = pairs[i];
-        pair.other(side)
+        self.pairs[i].other(side)
     }
 
     // A side's flag of a pair, set or clear.
-    pub fn with(self, side: u8, i: usize, set: bool) -> Arbitration
+    pub fn with(mut self, side: u8, i: usize, set: bool) -> Arbitration
         requires { i < 4 }
         ensures { arbitration_as result ≡ with_flag_of (side_of side) i set (arbitration_as self) }
     {
-        let mut pairs = self.pairs;
-        let pair = pairs[i];
-        pairs[i] = pair.with(side, set);
-        Arbitration { pairs: pairs }
+        self.pairs[i] = self.pairs[i].with(side, set);
+        self
     }
 
     // L4, ARBUTIL: all eight flags, a byte to a pair.
     pub fn value(self) -> u32
         ensures { result ≡ flags_value (arbitration_as self) }
     {
-        let pairs = self.pairs;
-        all_values(pairs)
+        u32::from_le_bytes(self.pairs.map(|pair| pair.value() as u8))
     }
 }

@@ -1,5 +1,5 @@
 -- Laws of claim and release: a flag changed in the card, and a claim won or lost.
-use Rattle.std.specs.Prelude.{◌≡◌, refl, Bool, true, false, [], ◌∷◌, ℕ}
+use Rattle.std.specs.Prelude.{◌≡◌, refl, Bool, true, false, [], ◌∷◌, ℕ, Ok}
 use Rattle.std.proofs.Common.{ap, sym, ◌∙◌}
 use Rattle.model.specs.Sides.{Side, other}
 use Rattle.model.specs.Arbitration.{Pair, pair_of, flag, with_flag_of}
@@ -7,7 +7,6 @@ use Rattle.model.specs.State.{with_arbitration}
 use Rattle.model.specs.Changes.{flag_is, apply, nothing, Effect, done}
 use Rattle.model.specs.FifosAndFlags.{claimed}
 use Rattle.model.proofs.TestLaws.{if_case}
-use Rattle.access.specs.declared.Answer.TheVariants.{Done}
 use Rattle.arbitration.specs.declared.Arbitration.{Arbitration}
 use Rattle.arbitration.specs.Bridge.{arbitration_as}
 use Rattle.card.specs.declared.Card.{Card}
@@ -23,9 +22,9 @@ module _ (c : Card) (i : ℕ) (side : Side) where
   flag_set b a d h s = s ∙ ap (λ a. with_arbitration a (state_as c)) (h ∙ ap (with_flag_of side i b) (sym (arbitration_is c)))
 
   module _ (b : Bool) (e : b ≡ flag (other side) (pair_of (arbitration_as c.arbitration) i)) where
-    pub claim_lost : b ≡ true → Effected (claimed side i (pair_of (state_as c).arbitration i)) c (record { card = c; answer = Done 0 0 })
+    pub claim_lost : b ≡ true → Effected (claimed side i (pair_of (state_as c).arbitration i)) c (record { card = c; answer = Ok (record { v = 0; x = 0 }) })
     claim_lost h = by_effect (Gives c _) _ (done 0 0 []) (rw (arbitration_is c, ← e, h)) (unchanged 0 0 0 0 c refl refl)
 
     pub claim_won : (d : Card) → b ≡ false → state_as d ≡ apply (flag_is side i true) (state_as c) →
-        Effected (claimed side i (pair_of (state_as c).arbitration i)) c (record { card = d; answer = Done 1 0 })
+        Effected (claimed side i (pair_of (state_as c).arbitration i)) c (record { card = d; answer = Ok (record { v = 1; x = 0 }) })
     claim_won d h s = by_effect (Gives c _) _ (done 1 0 (flag_is side i true ∷ [])) (rw (arbitration_is c, ← e, h)) (record { answer = refl; state = s })

@@ -9,17 +9,19 @@ ghost use Rattle.bays.specs.Bridge.{label_at, found_as};
 #[derive(Clone, Copy)]
 pub struct BayIndex(u8);
 
-impl BayIndex {
-    pub fn of_byte(byte: u8) -> BayIndex
-        ensures { result.0 ≡ byte }
-    {
+impl From<u8> for BayIndex {
+    ghost from_gives = { λ byte bay. bay.0 ≡ byte };
+
+    fn from(byte: u8) -> BayIndex {
         BayIndex(byte)
     }
+}
 
-    pub fn number(self) -> u8
-        ensures { result ≡ self.0 }
-    {
-        self.0
+impl From<BayIndex> for u8 {
+    ghost from_gives = { λ bay byte. byte ≡ bay.0 };
+
+    fn from(index: BayIndex) -> u8 {
+        index.0
     }
 }
 
@@ -27,17 +29,19 @@ impl BayIndex {
 #[derive(Clone, Copy)]
 pub struct BayLabel(u8);
 
-impl BayLabel {
-    pub fn of_byte(byte: u8) -> BayLabel
-        ensures { result.0 ≡ byte }
-    {
+impl From<u8> for BayLabel {
+    ghost from_gives = { λ byte bay. bay.0 ≡ byte };
+
+    fn from(byte: u8) -> BayLabel {
         BayLabel(byte)
     }
+}
 
-    pub fn number(self) -> u8
-        ensures { result ≡ self.0 }
-    {
-        self.0
+impl From<BayLabel> for u8 {
+    ghost from_gives = { λ bay byte. byte ≡ bay.0 };
+
+    fn from(label: BayLabel) -> u8 {
+        label.0
     }
 }
 
@@ -46,7 +50,8 @@ const ROWS: u8 = 4;
 
 const COLUMNS: u8 = 6;
 
-// "index = 4 x column + row, both from 0", "label = 6 x row + column + 1". An index that no bay has gets label 0.
+// "index = 4 x column + row, both from 0", "label = 6 x row + column + 1". An index that no bay has gets label 0, as the promise
+// says: a label is never 0 elsewhere, where an index may be.
 pub fn label(index: BayIndex) -> BayLabel
     ensures { result.0 ≡ label_at index.0 }
 {
@@ -60,23 +65,16 @@ pub fn label(index: BayIndex) -> BayLabel
     }
 }
 
-// Which bay has a label. Index 0 is a bay, so none is a case of its own.
-#[derive(Clone, Copy)]
-pub enum Found {
-    At(BayIndex),
-    NoBay,
-}
-
-// The way back: "a label outside 1 to 24 gives none".
-pub fn index(label: BayLabel) -> Found
+// The way back: "a label outside 1 to 24 gives none". Index 0 is a bay, so none is a case of its own.
+pub fn index(label: BayLabel) -> Option<BayIndex>
     ensures { found_as result ≡ bay_index label.0 }
 {
     match label.0 {
         1..=24 => {
             let row = (label.0 - 1) / COLUMNS;
             let column = (label.0 - 1) % COLUMNS;
-            Found::At(BayIndex(ROWS * column + row))
+            Some(BayIndex(ROWS * column + row))
         }
-        _ => Found::NoBay,
+        _ => None,
     }
 }

@@ -7,7 +7,7 @@ ghost use Rattle.card.specs.Bridge.{world_as};
 ghost use Rattle.phases.specs.Bridge.{phases_as, told_as};
 
 use card::Card;
-use phases::Total;
+use phases::{Phase, Stop};
 
 // A burst write. The record never changes, and is not handed back.
 pub fn write(
@@ -17,16 +17,13 @@ pub fn write(
     side: u8,
     mode: u8,
     start: u32,
-    phases: &[u64],
-) -> Total
+    phases: &[Phase],
+) -> Result<u32, Stop>
     ensures { record { answer = told_as result []; world = world_as card shared.new window.now } ≡ burst (world_as card shared.old window.now) (record { way = writes; side = side; mode = mode; start = start; phases = phases_as phases.now }) }
 {
     let unfit = !device::fits(card, shared.len(), window.len());
-    let number = phases::refusal(unfit, side, mode, phases, false);
-    if number != 0 {
-        return Total::refused(number);
-    }
-    Total::ended(
+    phases::checks(unfit, side, mode, phases, false)?;
+    phases::ended(
         phases::write_phases(shared, mode, start, phases),
         phases.len(),
     )
@@ -40,17 +37,14 @@ pub fn read(
     side: u8,
     mode: u8,
     start: u32,
-    phases: &[u64],
+    phases: &[Phase],
     list: &mut [u32],
-) -> Total
+) -> Result<u32, Stop>
     ensures { record { answer = told_as result list.new; world = world_as card shared.now window.now } ≡ burst (world_as card shared.now window.now) (record { way = reads list.old; side = side; mode = mode; start = start; phases = phases_as phases.now }) }
 {
     let unfit = !device::fits(card, shared.len(), window.len());
-    let number = phases::refusal(unfit, side, mode, phases, list.len() < phases.len());
-    if number != 0 {
-        return Total::refused(number);
-    }
-    Total::ended(
+    phases::checks(unfit, side, mode, phases, list.len() < phases.len())?;
+    phases::ended(
         phases::read_phases(shared, mode, start, phases, list),
         phases.len(),
     )

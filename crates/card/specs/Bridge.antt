@@ -1,5 +1,5 @@
 -- From the code's card to the model's state, and what an operation on it promises.
-use Rattle.std.specs.Prelude.{◌≡◌, List, ℕ}
+use Rattle.std.specs.Prelude.{◌≡◌, List, ℕ, Result, Ok, Err, IsOk}
 use Rattle.model.specs.State as model
 use Rattle.model.specs.State.{State, World}
 use Rattle.model.specs.Checks.{refusal}
@@ -8,7 +8,6 @@ use Rattle.model.specs.Runs as runs
 use Rattle.model.specs.Accesses as words
 use Rattle.model.specs.Accesses.{Kind, Row, settled, does}
 use Rattle.access.specs.declared.Access.{Access}
-use Rattle.access.specs.declared.Answer.TheVariants.{Done, Refused}
 use Rattle.access.specs.Bridge.{access_as, answer_as}
 use Rattle.settings.specs.Bridge.{settings_as}
 use Rattle.fifos.specs.Bridge.{fifos_as}
@@ -18,7 +17,7 @@ use Rattle.interrupts.specs.Bridge.{interrupts_as}
 use Rattle.transfer.specs.Bridge.{transfer_as}
 use Rattle.dma.specs.Bridge.{dma_as}
 use Rattle.card.specs.declared.Card.{Card}
-use Rattle.card.specs.declared.NewCard.{NewCard}
+use Rattle.card.specs.declared.Unfit.{Unfit}
 use Rattle.card.specs.declared.Outcome.{Outcome}
 
 unfoldable pub state_as : Card → State
@@ -32,8 +31,9 @@ state_as c = record {
   dma = dma_as c.dma;
 }
 
-abbrev pub new_card_as : NewCard → model.NewCard
-new_card_as m = record { number = m.number; card = state_as m.card }
+abbrev pub new_card_as : Result Card Unfit → model.NewCard
+new_card_as (Ok c) = record { number = 0; card = state_as c }
+new_card_as (Err unfit) = record { number = 1; card = state_as unfit.card }
 
 abbrev pub world_as : Card → (shared window : List ℕ) → World
 world_as c shared window = record { card = state_as c; shared = shared; window = window }
@@ -43,7 +43,7 @@ outcome_as r shared window = record { answer = answer_as r.answer; world = world
 
 -- an operation on the record that is done: its answer and its record are those of the effect
 pub record Effected (effect : Effect) (before : Card) (r : Outcome) : Type 0 where
-  pub answer : r.answer ≡ Done effect.v effect.x
+  pub answer : r.answer ≡ Ok (record { v = effect.v; x = effect.x })
   pub state : state_as r.card ≡ apply_all effect.changes (state_as before)
 
 -- memories m and w are m' and w' after a store
@@ -61,10 +61,10 @@ pub record Stored (effect : Effect) (before : Card) (m w : List ℕ) (r : Outcom
 pub record Settles (row : Row) (card : Card) (m w : List ℕ) (r : Outcome) (m' w' : List ℕ) : Type 0 where
   pub told : outcome_as r m' w' ≡ settled (refusal row.checks) row.effect (world_as card m w)
   pub kept : ((answer_as r.answer).number ≡ 0 → ⊥) → r.card ≡ card
-  pub said : r.answer ≡ Refused 0 → ⊥
+  pub said : (answer_as r.answer).number ≡ 0 → IsOk r.answer
 
 -- What the function of a kind promises, the same of the kind's row.
 pub record Did (k : Kind) (card : Card) (q : Access) (m w : List ℕ) (r : Outcome) (m' w' : List ℕ) : Type 0 where
   pub told : outcome_as r m' w' ≡ does k (world_as card m w) (access_as q)
   pub kept : ((answer_as r.answer).number ≡ 0 → ⊥) → r.card ≡ card
-  pub said : r.answer ≡ Refused 0 → ⊥
+  pub said : (answer_as r.answer).number ≡ 0 → IsOk r.answer

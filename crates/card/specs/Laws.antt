@@ -1,8 +1,8 @@
 -- Laws of the bridge: each part of the state as the card has it, fresh cards and sound ones; and how the checks of a kind and its effect give its promise.
-use Rattle.std.specs.Prelude.{◌≡◌, Bool, true, false, ◌&&◌, List, [], ℕ, zero, suc}
+use Rattle.std.specs.Prelude.{◌≡◌, Bool, true, false, ◌&&◌, List, [], ℕ, ◌<◌, zero, suc, Result, Ok, Err, IsOk}
 use Rattle.std.proofs.Math.Path.{refl}
 use Rattle.std.proofs.Common.{ap, ap₂, sym, subst, ◌∙◌, arith, lit<}
-use Rattle.std.proofs.Math.Bool.{and-true}
+use Rattle.std.proofs.Math.Bool.{and-true, and_assoc}
 use Rattle.model.specs.Checks.{refusal}
 use Rattle.model.specs.Sides.{side_of}
 use Rattle.model.specs.Events.{Event, mask}
@@ -19,9 +19,10 @@ use Rattle.model.specs.Accesses.{Kind, Row, row_of, settled, does}
 use Rattle.model.proofs.CheckLaws.{Pass, passed}
 use Rattle.model.proofs.Refusals.{row_ascending, settled_number}
 use Rattle.access.specs.declared.Access.{Access}
-use Rattle.access.specs.declared.Answer.{Answer}
-use Rattle.access.specs.declared.Answer.TheVariants.{Done, Refused}
-use Rattle.access.specs.Bridge.{access_as, answer_as}
+use Rattle.access.specs.declared.Done.{Done}
+use Rattle.access.specs.declared.Refusal.{Refusal}
+use Rattle.access.specs.Bridge.{access_as, number_of, refusal_as, answer_as}
+use Rattle.access.specs.Laws.{number_positive, refused_number}
 use Rattle.settings.specs.Bridge.{settings_as}
 use Rattle.fifos.specs.Bridge.{fifos_as}
 use Rattle.arbitration.specs.Bridge.{arbitration_as}
@@ -68,9 +69,9 @@ module _ (c : Card) where
 pub sound_is : (s : State) (settings fifos arbitration mailboxes interrupts transfer : Bool) →
     settings ≡ settings_pass s.settings → fifos ≡ fifos_sound s.fifos → arbitration ≡ arbitration_sound s.arbitration →
     mailboxes ≡ mailboxes_sound s.mailboxes → interrupts ≡ interrupts_sound s.interrupts → transfer ≡ transfer_sound s.transfer →
-    (settings && (fifos && (arbitration && (mailboxes && (interrupts && transfer))))) ≡ sound s
+    (settings && fifos && arbitration && mailboxes && interrupts && transfer) ≡ sound s
 unfolding sound
-sound_is s settings fifos arbitration mailboxes interrupts transfer a b c d e f = rw (a, b, c, d, e, f) (simp and-true)
+sound_is s settings fifos arbitration mailboxes interrupts transfer a b c d e f = rw (a, b, c, d, e, f) (simp (and-true, and_assoc))
 
 -- FRESH CARDS
 
@@ -98,34 +99,36 @@ abbrev pub Gives : Card → Outcome → Effect → Type 0
 Gives c r e = Effected e c r
 
 -- an effect that changes nothing
-pub unchanged : (v x m y : ℕ) (c : Card) → m ≡ v → y ≡ x → Effected (done v x []) c (record { card = c; answer = Done m y })
-unchanged v x m y c p q = record { answer = ap₂ Done p q; state = refl }
+pub unchanged : (v x m y : ℕ) (c : Card) → m ≡ v → y ≡ x → Effected (done v x []) c (record { card = c; answer = Ok (record { v = m; x = y }) })
+unchanged v x m y c p q = record { answer = ap₂ (λ v x. Ok (record { v = v; x = x })) p q; state = refl }
 
 -- THE PROMISE OF A ROW
 
--- the number of a refusal, and 1 for what is done, so that this is told apart from `Refused 0`
-abbrev pub number_as : Answer → ℕ
-number_as (Done v x) = 1
-number_as (Refused n) = n
+-- what is done is answered as done
+pub done_said : {a : Result Done Refusal} {d : Done} → a ≡ Ok d → IsOk a
+done_said e = rw e refl
 
-pub done_said : {a : Answer} {v x : ℕ} → a ≡ Done v x → a ≡ Refused 0 → ⊥
-done_said d e = let z : ◌≡◌ {A = ℕ} 1 0 = sym (ap number_as d) ∙ ap number_as e in omega arith
+-- what a refused row settles
+refused_outcome : (n : ℕ) (e : Effect) (w : World) → 0 < n → record { answer = record { number = n; v = 0; x = 0 }; world = w } ≡ settled n e w
+refused_outcome zero e w h = absurd (omega (arith, h))
+refused_outcome (suc n) e w h = refl
 
 module _ (row : Row) (card : Card) (m w : List ℕ) where
   -- refused by the checks of the row
-  pub refused_settles : (n : ℕ) → n ≡ refusal row.checks → (n ≡ 0 → ⊥) → Settles row card m w (record { card = card; answer = Refused n }) m w
-  refused_settles n p h = record { told = rw (← p) (by n h); kept = λ _. refl; said = λ e. h (ap number_as e) }
-    where
-      by : (n : ℕ) → (n ≡ 0 → ⊥) → outcome_as (record { card = card; answer = Refused n }) m w ≡ settled n row.effect (world_as card m w)
-      by zero h = absurd (h refl)
-      by (suc n) h = refl
+  pub refused_settles : {T : Type 0} (checked : Result T Refusal) (r : Refusal) → checked ≡ Err r → refusal_as checked ≡ refusal row.checks →
+      Settles row card m w (record { card = card; answer = Err r }) m w
+  refused_settles checked r e p = record {
+    told = rw (← refused_number e p) (refused_outcome (number_of r) row.effect (world_as card m w) (number_positive r));
+    kept = λ _. refl;
+    said = λ z. absurd (let h = number_positive r in omega (arith, h, z));
+  }
 
   -- done, with a dword stored in a memory or not
   pub stored_settles : (r : Outcome) (m' w' : List ℕ) → refusal row.checks ≡ 0 → Stored row.effect card m w r m' w' → Settles row card m w r m' w'
   stored_settles r m' w' p e = record {
     told = rw (p, e.effected.answer, e.effected.state, e.memories.shared, e.memories.window);
-    kept = λ h. absurd (h (ap (λ (x : Answer). (answer_as x).number) e.effected.answer));
-    said = done_said e.effected.answer;
+    kept = λ h. absurd (h (ap (λ (x : Result Done Refusal). (answer_as x).number) e.effected.answer));
+    said = λ _. done_said e.effected.answer;
   }
 
   pub done_settles : (r : Outcome) → refusal row.checks ≡ 0 → row.effect.store ≡ nothing → Effected row.effect card r → Settles row card m w r m w
@@ -148,8 +151,9 @@ module _ (k : Kind) (card : Card) (q : Access) (m w : List ℕ) where
   pub did_asked : {r : Outcome} {m' w' : List ℕ} (a : words.Access) → access_as q ≡ a → Did k card q m w r m' w' → Settles (row_of k (world_as card m w) a) card m w r m' w'
   did_asked {r} {m'} {w'} a e d = subst (λ a. Settles (row_of k (world_as card m w) a) card m w r m' w') e (did_settles d)
 
-  pub refused_did : (n : ℕ) → n ≡ refusal (row_of k (world_as card m w) (access_as q)).checks → (n ≡ 0 → ⊥) → Did k card q m w (record { card = card; answer = Refused n }) m w
-  refused_did n p h = settles_did (refused_settles kind_row card m w n p h)
+  pub refused_did : {T : Type 0} (checked : Result T Refusal) (r : Refusal) → checked ≡ Err r →
+      refusal_as checked ≡ refusal (row_of k (world_as card m w) (access_as q)).checks → Did k card q m w (record { card = card; answer = Err r }) m w
+  refused_did checked r e p = settles_did (refused_settles kind_row card m w checked r e p)
 
   pub stored_did : (r : Outcome) (m' w' : List ℕ) → refusal (row_of k (world_as card m w) (access_as q)).checks ≡ 0 →
       Stored (row_of k (world_as card m w) (access_as q)).effect card m w r m' w' → Did k card q m w r m' w'
@@ -167,26 +171,26 @@ row_passed k w q n p h = passed 2 (lit< tt) (row_of k w q).checks (row_ascending
 
 module _ (row : Row) (card : Card) (m w : List ℕ) {r : Outcome} {m' w' : List ℕ} (s : Settles row card m w r m' w') where
   -- refused, by the row's number
-  pub settled_refused : (n : ℕ) → r.answer ≡ Refused n → (n ≡ refusal row.checks) × (n ≡ 0 → ⊥)
-  settled_refused n e = (
-    sym (ap (λ (a : Answer). (answer_as a).number) e) ∙ ap (λ o. o.answer.number) s.told ∙ settled_number (refusal row.checks) row.effect (world_as card m w),
-    λ z. s.said (e ∙ ap Refused z),
+  pub settled_refused : (f : Refusal) → r.answer ≡ Err f → (number_of f ≡ refusal row.checks) × (number_of f ≡ 0 → ⊥)
+  settled_refused f e = (
+    sym (ap (λ (a : Result Done Refusal). (answer_as a).number) e) ∙ ap (λ o. o.answer.number) s.told ∙ settled_number (refusal row.checks) row.effect (world_as card m w),
+    λ z. let p = number_positive f in omega (arith, p, z),
   )
 
   -- done, with the row's effect
-  pub settled_done : (v x : ℕ) → r.answer ≡ Done v x → (refusal row.checks ≡ 0) × Effected row.effect card r
-  settled_done v x e = by (refusal row.checks) s.told
+  pub settled_done : (d : Done) → r.answer ≡ Ok d → (refusal row.checks ≡ 0) × Effected row.effect card r
+  settled_done d e = by (refusal row.checks) s.told
     where
       by : (n : ℕ) → outcome_as r m' w' ≡ settled n row.effect (world_as card m w) → (n ≡ 0) × Effected row.effect card r
       by zero h =
           let a = sym (ap answer_as e) ∙ ap (λ o. o.answer) h in
-          (refl, record { answer = e ∙ ap₂ Done (ap (λ a. a.v) a) (ap (λ a. a.x) a); state = ap (λ o. o.world.card) h })
-      by (suc n) h = absurd (let z : ◌≡◌ {A = ℕ} 0 (suc n) = sym (ap (λ (a : Answer). (answer_as a).number) e) ∙ ap (λ o. o.answer.number) h in omega arith)
+          (refl, record { answer = e ∙ ap₂ (λ v x. Ok (record { v = v; x = x })) (ap (λ a. a.v) a) (ap (λ a. a.x) a); state = ap (λ o. o.world.card) h })
+      by (suc n) h = absurd (let z : ◌≡◌ {A = ℕ} 0 (suc n) = sym (ap (λ (a : Result Done Refusal). (answer_as a).number) e) ∙ ap (λ o. o.answer.number) h in omega arith)
 
   -- where no check holds, it is done
   pub settled_effected : refusal row.checks ≡ 0 → Effected row.effect card r
   settled_effected h = by r.answer refl
     where
-      by : (a : Answer) → r.answer ≡ a → Effected row.effect card r
-      by (Done v x) e = (settled_done v x e).1
-      by (Refused n) e = let f = settled_refused n e in absurd (f.1 (f.0 ∙ h))
+      by : (a : Result Done Refusal) → r.answer ≡ a → Effected row.effect card r
+      by (Ok d) e = (settled_done d e).1
+      by (Err f) e = absurd (let p = number_positive f in let z = (settled_refused f e).0 ∙ h in omega (arith, p, z))

@@ -1,10 +1,9 @@
 // The card's record by value: when it is sound, the fresh one, one part of it replaced, its reset, and what an access gives.
 #![tactic(auto)]
 
-ghost use Rattle.std.specs.Prelude.{◌≡◌, List, ℕ};
+ghost use Rattle.std.specs.Prelude.{◌≡◌, List, ℕ, Ok, Err};
 ghost use Rattle.model.specs.State.{sound, with_fifos, with_arbitration, with_mailboxes, with_interrupts, with_transfer, with_dma, fresh, fresh_card};
 ghost use Rattle.model.specs.Accesses as model;
-ghost use Rattle.access.specs.declared.Answer.TheVariants.{Done, Refused};
 ghost use Rattle.settings.specs.Bridge.{settings_as};
 ghost use Rattle.fifos.specs.Bridge.{fifos_as};
 ghost use Rattle.arbitration.specs.Bridge.{arbitration_as};
@@ -14,7 +13,7 @@ ghost use Rattle.transfer.specs.Bridge.{transfer_as};
 ghost use Rattle.dma.specs.Bridge.{dma_as};
 ghost use Rattle.card.specs.Bridge.{state_as, new_card_as, Did};
 
-use access::{Access, Answer};
+use access::{Access, Answer, Done, Refusal};
 use arbitration::Arbitration;
 use dma::Dma;
 use fifos::Fifos;
@@ -34,10 +33,9 @@ pub struct Card {
     pub dma: Dma,
 }
 
-// What a caller who asks for a card gets: 0 or a refusal, and the card.
+// What a caller who asks for a card with failing settings gets beside refusal 1.
 #[derive(Clone, Copy)]
-pub struct NewCard {
-    pub number: u8,
+pub struct Unfit {
     pub card: Card,
 }
 
@@ -54,15 +52,12 @@ pub struct Outcome {
 pub fn sound(card: Card) -> bool
     ensures { result ≡ sound (state_as card) }
 {
-    let settings = card.settings;
-    let fifos = card.fifos;
-    let arbitration = card.arbitration;
-    let mailboxes = card.mailboxes;
-    let interrupts = card.interrupts;
-    let transfer = card.transfer;
-    settings.pass()
-        & (fifos.sound()
-            & (arbitration.sound() & (mailboxes.sound() & (interrupts.sound() & transfer.sound()))))
+    card.settings.pass()
+        & card.fifos.sound()
+        & card.arbitration.sound()
+        & card.mailboxes.sound()
+        & card.interrupts.sound()
+        & card.transfer.sound()
 }
 
 // THE FRESH CARD
@@ -74,7 +69,7 @@ impl Card {
         ensures { state_as result ≡ fresh (settings_as settings) }
     {
         Card {
-            settings: settings,
+            settings,
             fifos: Fifos::fresh(),
             arbitration: Arbitration::fresh(),
             mailboxes: Mailboxes::fresh(),
@@ -86,19 +81,14 @@ impl Card {
 }
 
 // "Failing settings give refusal 1 and the fresh card of all-zero settings."
-pub fn fresh(settings: Settings) -> NewCard
+pub fn fresh(settings: Settings) -> Result<Card, Unfit>
     ensures { new_card_as result ≡ fresh_card (settings_as settings) }
 {
     if settings.pass() {
-        return NewCard {
-            number: 0,
-            card: Card::fresh(settings),
-        };
+        return Ok(Card::fresh(settings));
     }
-    NewCard {
-        number: access::UNFIT,
-        card: Card::fresh(Settings::zero()),
-    }
+    let card = Card::fresh(Settings::zero());
+    Err(Unfit { card })
 }
 
 // ONE PART REPLACED
@@ -108,90 +98,68 @@ impl Card {
     pub fn with_fifos(self, fifos: Fifos) -> Card
         ensures { state_as result ≡ with_fifos (fifos_as fifos) (state_as self) }
     {
-        let mut card = self;
-        card.fifos = fifos;
-        card
+        Card { fifos, ..self }
     }
 
     #[tactic(auto, unfolding(crate::specs::Bridge::state_as))]
     pub fn with_arbitration(self, arbitration: Arbitration) -> Card
         ensures { state_as result ≡ with_arbitration (arbitration_as arbitration) (state_as self) }
     {
-        let mut card = self;
-        card.arbitration = arbitration;
-        card
+        Card {
+            arbitration,
+            ..self
+        }
     }
 
     #[tactic(auto, unfolding(crate::specs::Bridge::state_as))]
     pub fn with_mailboxes(self, mailboxes: Mailboxes) -> Card
         ensures { state_as result ≡ with_mailboxes (mailboxes_as mailboxes) (state_as self) }
     {
-        let mut card = self;
-        card.mailboxes = mailboxes;
-        card
+        Card { mailboxes, ..self }
     }
 
     #[tactic(auto, unfolding(crate::specs::Bridge::state_as))]
     pub fn with_interrupts(self, interrupts: Interrupts) -> Card
         ensures { state_as result ≡ with_interrupts (interrupts_as interrupts) (state_as self) }
     {
-        let mut card = self;
-        card.interrupts = interrupts;
-        card
+        Card { interrupts, ..self }
     }
 
-    // An enum is not stored to a field: the record is written anew.
     #[tactic(auto, unfolding(crate::specs::Bridge::state_as))]
     pub fn with_transfer(self, transfer: Transfer) -> Card
         ensures { state_as result ≡ with_transfer (transfer_as transfer) (state_as self) }
     {
-        let settings = self.settings;
-        let fifos = self.fifos;
-        let arbitration = self.arbitration;
-        let mailboxes = self.mailboxes;
-        let interrupts = self.interrupts;
-        let dma = self.dma;
-        Card {
-            settings: settings,
-            fifos: fifos,
-            arbitration: arbitration,
-            mailboxes: mailboxes,
-            interrupts: interrupts,
-            transfer: transfer,
-            dma: dma,
-        }
+        Card { transfer, ..self }
     }
 
     #[tactic(auto, unfolding(crate::specs::Bridge::state_as))]
     pub fn with_dma(self, dma: Dma) -> Card
         ensures { state_as result ≡ with_dma (dma_as dma) (state_as self) }
     {
-        let mut card = self;
-        card.dma = dma;
-        card
+        Card { dma, ..self }
     }
 }
 
 // WHAT AN ACCESS GIVES
 
 impl Card {
-    // "Record and memories are unchanged."
-    pub fn refused(self, number: u8) -> Outcome
-        ensures { result ≡ record { card = self; answer = Refused number } }
+    // "Record and memories are unchanged." An outcome has the card on a refusal too, so that the kinds ask for their checks by `if let` and not by `?`.
+    pub fn refused(self, refusal: Refusal) -> Outcome
+        ensures { result ≡ record { card = self; answer = Err refusal } }
     {
         Outcome {
             card: self,
-            answer: Answer::Refused(number),
+            answer: Err(refusal),
         }
     }
 
     // "0 is done."
     pub fn done(self, v: u32, x: u32) -> Outcome
-        ensures { result ≡ record { card = self; answer = Done v x } }
+        ensures { result ≡ record { card = self; answer = Ok (record { v = v; x = x }) } }
     {
         Outcome {
             card: self,
-            answer: Answer::Done(v, x),
+            answer: Ok(Done { v, x }),
         }
     }
 }
@@ -200,10 +168,8 @@ impl Card {
 pub fn reset(card: Card, q: Access) -> Outcome
     ensures { (m w : List ℕ) → Did model.reset card q m w result m w }
 {
-    let n = access::no_field(q);
-    if n != 0 {
-        return card.refused(n);
+    if let Err(refusal) = access::no_field(q) {
+        return card.refused(refusal);
     }
-    let settings = card.settings;
-    Card::fresh(settings).done(0, 0)
+    Card::fresh(card.settings).done(0, 0)
 }

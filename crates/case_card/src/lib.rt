@@ -1,9 +1,9 @@
-// The head and the record of a case of the test programs: read from numbers of four bytes, least byte first, and the record and an answer written
-// out as lines of decimal numbers.
+// The cases of the test programs of a card: read from numbers of four bytes, least byte first, answered in turn, and a record and an answer written out
+// as lines of decimal numbers.
 // What stands where is said in oracle/src/programs/device/mod.rs.
 #![tactic(auto)]
 
-use access::Answer;
+use access::{Access, Answer, Refusal};
 use arbitration::{Arbitration, Pair};
 use card::Card;
 use dma::Dma;
@@ -12,16 +12,33 @@ use fifos::{Fifo, Fifos};
 use interrupts::Interrupts;
 use mailboxes::Mailboxes;
 use settings::Settings;
-use testing::{number_at, show};
+use testing::{numbers, read_padded, show, show_line};
 use transfer::{Request, Transfer};
 
 // READ
 
-// What a case begins with. `whole`: the input had not ended.
+// What a case asks for: calls to a record that it gives, or to a fresh card, or sources.
+#[derive(Clone, Copy, PartialEq, Eq)]
+pub enum Asked {
+    Record,
+    Fresh,
+    Sources,
+}
+
+impl From<u32> for Asked {
+    fn from(number: u32) -> Asked {
+        match number {
+            0 => Asked::Record,
+            2 => Asked::Sources,
+            _ => Asked::Fresh,
+        }
+    }
+}
+
+// What a case begins with.
 #[derive(Clone, Copy)]
 pub struct Head {
-    pub whole: bool,
-    pub what: u32,
+    pub asked: Asked,
     pub settings: Settings,
     pub shared: u32,
     pub window: u32,
@@ -29,47 +46,29 @@ pub struct Head {
     pub count: u32,
 }
 
-fn head_of(whole: bool, bytes: &[u8]) -> Head {
-    let settings = Settings {
-        base: number_at(bytes, 1),
-        length: number_at(bytes, 2),
-        lo: number_at(bytes, 3),
-        hi: number_at(bytes, 4),
-    };
-    Head {
-        whole: whole,
-        what: number_at(bytes, 0),
-        settings: settings,
-        shared: number_at(bytes, 5),
-        window: number_at(bytes, 6),
-        seed: number_at(bytes, 7),
-        count: number_at(bytes, 8),
-    }
-}
-
-pub fn read_head() -> Head {
-    let mut bytes = [0u8; 36];
-    let whole = testing::read_bytes(&mut bytes);
-    head_of(whole, &bytes)
-}
-
-fn fifo_of(bytes: &[u8]) -> Fifo {
-    let mut entries = [0u32; 32];
-    let mut i: u8 = 0;
-    while i < 32 {
-        entries[i as usize] = number_at(bytes, i + 1);
-        i += 1;
-    }
-    Fifo {
-        entries: entries,
-        count: number_at(bytes, 0),
-    }
+// None where the input has ended.
+fn read_head() -> Option<Head> {
+    let bytes = testing::read_case::<36>()?;
+    let [what, base, length, lo, hi, shared, window, seed, count] = numbers::<9>(&bytes);
+    Some(Head {
+        asked: Asked::from(what),
+        settings: Settings {
+            base,
+            length,
+            lo,
+            hi,
+        },
+        shared,
+        window,
+        seed,
+        count,
+    })
 }
 
 fn read_fifo() -> Fifo {
-    let mut bytes = [0u8; 132];
-    testing::read_bytes(&mut bytes);
-    fifo_of(&bytes)
+    let [count] = numbers::<1>(&read_padded::<4>());
+    let entries = numbers(&read_padded::<128>());
+    Fifo { entries, count }
 }
 
 fn pair_of(bits: u32) -> Pair {
@@ -86,203 +85,274 @@ fn register_of(enables: u32, status: u32) -> Register {
     }
 }
 
-fn transfer_of(bytes: &[u8]) -> Transfer {
-    if number_at(bytes, 11) == 0 {
+fn read_mailboxes() -> Mailboxes {
+    let [hldata, lhdata, lhwritten] = numbers::<3>(&read_padded::<12>());
+    Mailboxes {
+        hldata,
+        lhdata,
+        lhwritten: lhwritten == 1,
+    }
+}
+
+fn read_interrupts() -> Interrupts {
+    let [host_enables, host_status, local_enables, local_status] = numbers::<4>(&read_padded::<
+        16,
+    >());
+    Interrupts {
+        hint: register_of(host_enables, host_status),
+        lint: register_of(local_enables, local_status),
+    }
+}
+
+fn read_transfer() -> Transfer {
+    let [running, direction, shared, pci, size, moved] = numbers::<6>(&read_padded::<24>());
+    if running == 0 {
         return Transfer::Idle;
     }
     let request = Request {
-        direction: (number_at(bytes, 12) % 256) as u8,
-        shared: number_at(bytes, 13),
-        pci: number_at(bytes, 14),
-        size: number_at(bytes, 15),
+        direction: (direction % 256) as u8,
+        shared,
+        pci,
+        size,
     };
-    Transfer::Running(request, number_at(bytes, 16))
+    Transfer::Running(request, moved)
 }
 
-fn dma_of(bytes: &[u8]) -> Dma {
+fn read_dma() -> Dma {
+    let [shared, pci, size, owner, inhibit, outward] = numbers::<6>(&read_padded::<24>());
     Dma {
-        shared: number_at(bytes, 17),
-        pci: number_at(bytes, 18),
-        size: number_at(bytes, 19),
-        owner: pair_of(number_at(bytes, 20)),
-        inhibit: number_at(bytes, 21) == 1,
-        outward: number_at(bytes, 22) == 1,
-    }
-}
-
-// A record, whose bytes are those behind the FIFOs: four numbers of pairs of flags, three of mailboxes, four of registers, six of the transfer,
-// six of the DMA registers.
-fn card_of(settings: Settings, each: [Fifo; 4], bytes: &[u8]) -> Card {
-    let pairs = [
-        pair_of(number_at(bytes, 0)),
-        pair_of(number_at(bytes, 1)),
-        pair_of(number_at(bytes, 2)),
-        pair_of(number_at(bytes, 3)),
-    ];
-    let mailboxes = Mailboxes {
-        hldata: number_at(bytes, 4),
-        lhdata: number_at(bytes, 5),
-        lhwritten: number_at(bytes, 6) == 1,
-    };
-    let interrupts = Interrupts {
-        hint: register_of(number_at(bytes, 7), number_at(bytes, 8)),
-        lint: register_of(number_at(bytes, 9), number_at(bytes, 10)),
-    };
-    Card {
-        settings: settings,
-        fifos: Fifos { each: each },
-        arbitration: Arbitration { pairs: pairs },
-        mailboxes: mailboxes,
-        interrupts: interrupts,
-        transfer: transfer_of(bytes),
-        dma: dma_of(bytes),
+        shared,
+        pci,
+        size,
+        owner: pair_of(owner),
+        inhibit: inhibit == 1,
+        outward: outward == 1,
     }
 }
 
 // What a case says of a record.
-pub fn read_card(settings: Settings) -> Card {
-    let f0 = read_fifo();
-    let f1 = read_fifo();
-    let f2 = read_fifo();
-    let f3 = read_fifo();
-    let mut bytes = [0u8; 92];
-    testing::read_bytes(&mut bytes);
-    card_of(settings, [f0, f1, f2, f3], &bytes)
-}
-
-// The card of a case: a given record, or a fresh card, whose number is written.
-pub fn first_card(what: u32, settings: Settings) -> Card {
-    if what == 0 {
-        return read_card(settings);
-    }
-    let new = card::fresh(settings);
-    show(new.number as u64, b'\n');
-    new.card
-}
-
-// WRITTEN OUT
-
-fn show_answered(n: u8, v: u32, x: u32) {
-    show(n as u64, b' ');
-    show(v as u64, b' ');
-    show(x as u64, b'\n');
-}
-
-pub fn show_answer(answer: Answer) {
-    match answer {
-        Answer::Done(v, x) => show_answered(0, v, x),
-        Answer::Refused(n) => show_answered(n, 0, 0),
+fn read_card(settings: Settings) -> Card {
+    Card {
+        settings,
+        fifos: Fifos {
+            each: std::array::from_fn(|_| read_fifo()),
+        },
+        arbitration: Arbitration {
+            pairs: numbers(&read_padded::<16>()).map(pair_of),
+        },
+        mailboxes: read_mailboxes(),
+        interrupts: read_interrupts(),
+        transfer: read_transfer(),
+        dma: read_dma(),
     }
 }
 
-fn bit(set: bool) -> u64 {
-    if set { 1 } else { 0 }
+// What is called: an access, a register access, a burst that writes or one that reads.
+#[derive(Clone, Copy, PartialEq, Eq)]
+pub enum Call {
+    Access,
+    Register,
+    Write,
+    Read,
 }
 
-fn show_settings(s: Settings) {
-    show(s.base as u64, b' ');
-    show(s.length as u64, b' ');
-    show(s.lo as u64, b' ');
-    show(s.hi as u64, b'\n');
-}
-
-// An entry behind a space.
-fn show_entry(entry: u32) {
-    io::write_all(1, b" ");
-    io::print_decimal(1, entry as u64);
-}
-
-// The count and the entries held: of a count above 32, those that there are.
-fn show_fifo(f: Fifo) {
-    let entries = f.entries;
-    let count = f.count;
-    io::print_decimal(1, count as u64);
-    let mut i: u32 = 0;
-    while i < 32 && i < count {
-        show_entry(entries[i as usize]);
-        i += 1;
-    }
-    io::write_all(1, b"\n");
-}
-
-fn show_fifos(fifos: Fifos) {
-    let each = fifos.each;
-    let f0 = each[0];
-    let f1 = each[1];
-    let f2 = each[2];
-    let f3 = each[3];
-    show_fifo(f0);
-    show_fifo(f1);
-    show_fifo(f2);
-    show_fifo(f3);
-}
-
-fn show_pair(pair: Pair, after: u8) {
-    show(bit(pair.host), b' ');
-    show(bit(pair.local), after);
-}
-
-fn show_arbitration(arbitration: Arbitration) {
-    let pairs = arbitration.pairs;
-    let p0 = pairs[0];
-    let p1 = pairs[1];
-    let p2 = pairs[2];
-    let p3 = pairs[3];
-    show_pair(p0, b' ');
-    show_pair(p1, b' ');
-    show_pair(p2, b' ');
-    show_pair(p3, b'\n');
-}
-
-fn show_register(r: Register, after: u8) {
-    let enables = r.enables;
-    let status = r.status;
-    show(enables.0 as u64, b' ');
-    show(status.0 as u64, after);
-}
-
-fn show_transfer(transfer: Transfer) {
-    match transfer {
-        Transfer::Idle => show(0, b'\n'),
-        Transfer::Running(t, moved) => {
-            show(1, b' ');
-            show(t.direction as u64, b' ');
-            show(t.shared as u64, b' ');
-            show(t.pci as u64, b' ');
-            show(t.size as u64, b' ');
-            show(moved as u64, b'\n');
+impl From<u8> for Call {
+    fn from(number: u8) -> Call {
+        match number {
+            0 => Call::Access,
+            1 => Call::Register,
+            3 => Call::Read,
+            _ => Call::Write,
         }
     }
 }
 
+// What is called, and the numbers of an access, which stand for those of every call.
+pub fn read_call() -> (Call, Access) {
+    let [packed, a, b, c] = numbers::<4>(&read_padded::<16>());
+    let [kind, side, s, call] = packed.to_le_bytes();
+    let access = Access {
+        kind,
+        side,
+        s,
+        a,
+        b,
+        c,
+    };
+    (Call::from(call), access)
+}
+
+// The number of a memory's next byte.
+fn next(x: u64) -> u64 {
+    (x % 2147483648 * 1103515245 + 12345) % 2147483648
+}
+
+// Fills a memory from a seed.
+fn fill(memory: &mut [u8], seed: u64) {
+    let mut x = seed;
+    for byte in memory.iter_mut() {
+        x = next(x);
+        *byte = (x / 65536 % 256) as u8;
+    }
+}
+
+// ANSWERED
+
+// The card of a case: a given record, or a fresh card, whose number is written.
+fn first_card(asked: Asked, settings: Settings) -> Card {
+    if asked == Asked::Record {
+        return read_card(settings);
+    }
+    match card::fresh(settings) {
+        Ok(card) => {
+            show(0, b'\n');
+            card
+        }
+        Err(unfit) => {
+            show(u64::from(Refusal::Unfit.number()), b'\n');
+            unfit.card
+        }
+    }
+}
+
+// The calls of a case, then the record and the digests.
+pub fn run_calls<F: FnMut(Card, &mut [u8], &mut [u8]) -> Card>(
+    head: Head,
+    shared: &mut [u8],
+    window: &mut [u8],
+    mut call: F,
+)
+    requires { F.IsAlwaysCallable call }
+{
+    let mut card = first_card(head.asked, head.settings);
+    for _ in 0..head.count {
+        card = call(card, shared, window);
+    }
+    show_card(card);
+    show_line(&[testing::digest(shared), testing::digest(window)]);
+}
+
+const ROOM: usize = 65600;
+
+// Answers the next case on memories of its lengths; false where there is none, or it has no room.
+fn answer_case<F: FnMut(Head, &mut [u8], &mut [u8])>(
+    shared: &mut [u8; ROOM],
+    window: &mut [u8; ROOM],
+    answer: &mut F,
+) -> bool
+    requires { (state : F) (head : _) (shared : _) (window : _) → F.pre state head shared window }
+{
+    let Some(head) = read_head() else {
+        return false;
+    };
+    let (s, w) = (head.shared as usize, head.window as usize);
+    if s > ROOM || w > ROOM {
+        return false;
+    }
+    fill(&mut shared[..s], u64::from(head.seed));
+    fill(&mut window[..w], u64::from(head.seed) + 1);
+    answer(head, &mut shared[..s], &mut window[..w]);
+    true
+}
+
+// Answers case after case.
+pub fn each_case<F: FnMut(Head, &mut [u8], &mut [u8])>(mut answer: F)
+    requires { (state : F) (head : _) (shared : _) (window : _) → F.pre state head shared window }
+{
+    let mut shared = [0; ROOM];
+    let mut window = [0; ROOM];
+    testing::each_case(
+        ||
+            requires { (state : F) (head : _) (shared : _) (window : _) → F.pre state head shared window }
+        { answer_case(&mut shared, &mut window, &mut answer) },
+    );
+}
+
+// WRITTEN OUT
+
+pub fn show_answer(answer: Answer) {
+    match answer {
+        Ok(done) => show_line(&[0, u64::from(done.v), u64::from(done.x)]),
+        Err(refusal) => show_line(&[u64::from(refusal.number()), 0, 0]),
+    }
+}
+
+// The count and the entries held: of a count above 32, those that there are.
+fn show_fifo(fifo: Fifo) {
+    io::print_decimal(1, u64::from(fifo.count));
+    for entry in fifo.entries.iter().take(fifo.count as usize) {
+        io::write_all(1, b" ");
+        io::print_decimal(1, u64::from(*entry));
+    }
+    io::write_all(1, b"\n");
+}
+
+fn show_arbitration(arbitration: Arbitration) {
+    for (pair, after) in arbitration.pairs.iter().zip(b"   \n") {
+        show(u64::from(pair.host), b' ');
+        show(u64::from(pair.local), *after);
+    }
+}
+
+fn show_mailboxes(mailboxes: Mailboxes) {
+    show_line(&[
+        u64::from(mailboxes.hldata),
+        u64::from(mailboxes.lhdata),
+        u64::from(mailboxes.lhwritten),
+    ]);
+}
+
+fn show_interrupts(Interrupts { hint, lint }: Interrupts) {
+    show_line(&[hint.enables, hint.status, lint.enables, lint.status].map(|events| u64::from(
+        events.0,
+    )));
+}
+
+fn show_transfer(transfer: Transfer) {
+    match transfer {
+        Transfer::Idle => show_line(&[0]),
+        Transfer::Running(request, moved) => show_line(&[
+            1,
+            u64::from(request.direction),
+            u64::from(request.shared),
+            u64::from(request.pci),
+            u64::from(request.size),
+            u64::from(moved),
+        ]),
+    }
+}
+
 fn show_dma(dma: Dma) {
-    let owner = dma.owner;
-    show(dma.shared as u64, b' ');
-    show(dma.pci as u64, b' ');
-    show(dma.size as u64, b' ');
-    show_pair(owner, b' ');
-    show(bit(dma.inhibit), b' ');
-    show(bit(dma.outward), b'\n');
+    show_line(&[
+        u64::from(dma.shared),
+        u64::from(dma.pci),
+        u64::from(dma.size),
+        u64::from(dma.owner.host),
+        u64::from(dma.owner.local),
+        u64::from(dma.inhibit),
+        u64::from(dma.outward),
+    ]);
+}
+
+fn show_settings(settings: Settings) {
+    let Settings {
+        base,
+        length,
+        lo,
+        hi,
+    } = settings;
+    show_line(&[base, length, lo, hi].map(u64::from));
 }
 
 // The whole record.
 pub fn show_card(card: Card) {
-    let settings = card.settings;
-    let fifos = card.fifos;
-    let arbitration = card.arbitration;
-    let mail = card.mailboxes;
-    let hint = card.interrupts.hint;
-    let lint = card.interrupts.lint;
-    let transfer = card.transfer;
-    let dma = card.dma;
-    show_settings(settings);
-    show_fifos(fifos);
-    show_arbitration(arbitration);
-    show(mail.hldata as u64, b' ');
-    show(mail.lhdata as u64, b' ');
-    show(bit(mail.lhwritten), b'\n');
-    show_register(hint, b' ');
-    show_register(lint, b'\n');
-    show_transfer(transfer);
-    show_dma(dma);
+    show_settings(card.settings);
+    for fifo in card.fifos.each {
+        show_fifo(fifo);
+    }
+    show_arbitration(card.arbitration);
+    show_mailboxes(card.mailboxes);
+    show_interrupts(card.interrupts);
+    show_transfer(card.transfer);
+    show_dma(card.dma);
 }

@@ -1,5 +1,5 @@
 -- What contracts of convert cite: the forms by their names in the code, and what an access and a chunk that are turned promise.
-use Rattle.std.specs.Prelude.{◌≡◌, Bool, true, false, List, ℕ, ◌+◌, ◌≤◌, length, drop}
+use Rattle.std.specs.Prelude.{◌≡◌, List, Option, Some, None, ℕ, ◌+◌, ◌≤◌, length, drop}
 use Rattle.model.specs.Trace.{Reading, recorded, refused}
 use Rattle.model.specs.Convert as model
 use Rattle.model.specs.Convert.{text_form, trace_form, convert}
@@ -25,18 +25,13 @@ turned_text from to count (recorded q) = to.bytes count q
 turned_text from to count (refused n) = from.refusal_line n count
 
 -- how many bytes of the input it has
-abbrev pub turned_size : (from : model.Form) → (count : ℕ) → Reading → ℕ
-turned_size from count (recorded q) = length (from.bytes count q)
-turned_size from count (refused n) = 0
-
-abbrev pub is_refused : Reading → Bool
-is_refused (recorded q) = false
-is_refused (refused n) = true
+abbrev pub turned_size : (from : model.Form) → (count : ℕ) → Reading → Option ℕ
+turned_size from count (recorded q) = Some (length (from.bytes count q))
+turned_size from count (refused n) = None
 
 pub record AccessTurned (from to : model.Form) (count : ℕ) (input before : List ℕ) (at : ℕ) (step : Step) (after : List ℕ) : Type 0 where
   pub text : Written before at (turned_text from to count (from.read count input)) step.end after
   pub size : step.size ≡ turned_size from count (from.read count input)
-  pub refused : step.refused ≡ is_refused (from.read count input)
   pub room : step.end ≤ at + 45
 
 -- A CHUNK

@@ -1,13 +1,10 @@
 // Document 02, L1: a list of accesses turned from one form into the other: "a text list of accesses into a trace", and "back".
 #![tactic(auto)]
 
-ghost use Rattle.std.specs.Prelude.{◌≡◌, true, false, ◌+◌, ◌*◌, ◌<◌, ◌≤◌, ◌^◌, length};
+ghost use Rattle.std.specs.Prelude.{◌≡◌, ◌+◌, ◌*◌, ◌<◌, ◌≤◌, ◌^◌, length, IfSome};
 ghost use Rattle.model.specs.Trace.{number_after};
 ghost use Rattle.model.specs.Convert.{text_form, trace_form};
 ghost use Rattle.convert.specs.Bridge.{form_as, other_as, AccessTurned, ChunkTurned};
-
-use access_text::Line;
-use trace::Read;
 
 // The form that is read; the other is written.
 #[derive(Clone, Copy)]
@@ -28,34 +25,11 @@ impl Form {
     }
 }
 
-// What an access that is turned gives: how many bytes of the input it has, where the output ends, and whether it was refused.
+// What becomes of the access at the start of the input: how many bytes it has there, none where it is refused; and where the output ends.
 #[derive(Clone, Copy)]
 struct Step {
-    size: usize,
+    size: Option<usize>,
     end: usize,
-    refused: bool,
-}
-
-impl Step {
-    fn taken(size: usize, end: usize) -> Step
-        ensures { result ≡ record { size = size; end = end; refused = false } }
-    {
-        Step {
-            size: size,
-            end: end,
-            refused: false,
-        }
-    }
-
-    fn refusal(end: usize) -> Step
-        ensures { result ≡ record { size = 0; end = end; refused = true } }
-    {
-        Step {
-            size: 0,
-            end: end,
-            refused: true,
-        }
-    }
 }
 
 // "Numbers start at 0; after 65,535 the record number starts again at 0."
@@ -72,15 +46,18 @@ fn line_to_record(text: &[u8], count: u64, out: &mut [u8], end: usize) -> Step
     ensures { AccessTurned text_form trace_form count text.now out.old end result out.new }
 {
     match access_text::read_line(text) {
-        Line::Access(q, size) => {
+        Ok(line) => {
             // There is room, so it answers the next number, which the count gives too.
-            trace::write_record(number_after(count), q, &mut out[end..]);
-            Step::taken(size, end + 20)
+            let _ = trace::write_record(number_after(count), line.access, &mut out[end..]);
+            Step {
+                size: Some(line.length),
+                end: end + 20,
+            }
         }
-        Line::Refused(refusal) => {
-            let p = report::write_refused_line(out, end, refusal, count + 1);
-            Step::refusal(p)
-        }
+        Err(refusal) => Step {
+            size: None,
+            end: report::write_refused_line(out, end, refusal.number(), count + 1),
+        },
     }
 }
 
@@ -90,21 +67,23 @@ fn record_to_line(trace: &[u8], count: u64, out: &mut [u8], end: usize) -> Step
     ensures { AccessTurned trace_form text_form count trace.now out.old end result out.new }
 {
     match trace::read_record(trace, number_after(count)) {
-        Read::Record(q) => {
-            let p = access_text::write_line(out, end, q);
-            Step::taken(20, p)
-        }
-        Read::Refused(refusal) => {
-            let p = report::write_log(out, end, refusal, count);
-            Step::refusal(p)
-        }
+        Ok(q) => Step {
+            size: Some(20),
+            end: access_text::write_line(out, end, q),
+        },
+        Err(refusal) => Step {
+            size: None,
+            end: report::write_log(out, end, refusal.number(), count),
+        },
     }
 }
 
+// Which form is read is known at run time only: `convert_chunk` is told it by its caller.
 fn turn_one(from: Form, input: &[u8], count: u64, out: &mut [u8], end: usize) -> Step
     requires end_in_bounds { end + 45 ≤ length out.old }
     requires count_bound { count + 1 < 2 ^ 64 }
-    ensures { AccessTurned (form_as from) (other_as from) count input.now out.old end result out.new }
+    ensures turned { AccessTurned (form_as from) (other_as from) count input.now out.old end result out.new }
+    ensures far { IfSome result.size (λ size. (12 ≤ size) × (size ≤ length input.now) × (result.end ≤ end + 3 * size)) }
 {
     match from {
         Form::Text => line_to_record(input, count, out, end),
@@ -113,8 +92,8 @@ fn turn_one(from: Form, input: &[u8], count: u64, out: &mut [u8], end: usize) ->
 }
 
 // Where a chunk's conversion stands: the bytes from `at` on are left, none behind a refusal; where the output ends, the accesses turned in all, and
-// whether a refusal has stopped it.
-#[derive(Clone, Copy)]
+// whether a refusal has stopped it, beside which the others hold too.
+#[derive(Clone, Copy, Default)]
 pub struct Converted {
     pub at: usize,
     pub end: usize,
@@ -136,27 +115,23 @@ pub fn convert_chunk(
     ensures chunk_turned { ChunkTurned (form_as from) (other_as from) least start input.now out.old result out.new }
     ensures count_bound { 12 * result.count ≤ 12 * start + length input.now }
 {
-    let mut count = start;
-    let mut at = 0;
-    let mut end = 0;
-    while input.len() - at >= least {
-        let step = turn_one(from, &input[at..], count, out, end);
-        end = step.end;
-        if step.refused {
+    let mut turned = Converted {
+        count: start,
+        ..Converted::default()
+    };
+    // Each access has its own length.
+    while input.len() - turned.at >= least {
+        let step = turn_one(from, &input[turned.at..], turned.count, out, turned.end);
+        turned.end = step.end;
+        let Some(size) = step.size else {
             return Converted {
                 at: input.len(),
-                end: end,
-                count: count,
                 stopped: true,
+                ..turned
             };
-        }
-        at += step.size;
-        count += 1;
+        };
+        turned.at += size;
+        turned.count += 1;
     }
-    Converted {
-        at: at,
-        end: end,
-        count: count,
-        stopped: false,
-    }
+    turned
 }

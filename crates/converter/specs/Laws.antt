@@ -18,8 +18,7 @@ use Rattle.stream.specs.Laws.{kept_front, more_is, end_is}
 use Rattle.convert.specs.declared.Form.{Form}
 use Rattle.convert.specs.Bridge.{form_as, other_as, ChunkTurned}
 use Rattle.convert.specs.Laws.{readable, some_longest}
-use Rattle.converter.specs.declared.Turn.{Turn}
-use Rattle.converter.specs.Bridge.{first_turn, place_at, Going, bytes_of, Turned, Reached, Ended}
+use Rattle.converter.specs.Bridge.{Turn, first_turn, place_at, Going, bytes_of, Turned, most_chunks, Reached, Last, Ended}
 
 -- A CHUNK TURNED
 
@@ -30,11 +29,11 @@ together from to least p bytes all h e = rw (h, e)
 
 pub turned : (from : Form) {last turn : Turn} {entry kept input before out : List ℕ} {n least size : ℕ} → Going last →
     length kept ≡ chunk_bytes → length input ≡ chunk_bytes →
-    Keeps entry last.converted.at last.chunk.size n kept → Reads kept n turn.chunk input →
+    Keeps entry last.work.at last.chunk.size n kept → Reads kept n turn.chunk input →
     size ≡ turn.chunk.size → least ≡ least_of turn.chunk (form_as from).longest →
-    ChunkTurned (form_as from) (other_as from) least last.converted.count (take (size - 0) input) before turn.converted out →
-    turn.told ≡ (if turn.lost then last.converted.count else turn.converted.count) →
-    turn.more ≡ goes_on turn.chunk turn.converted.stopped turn.lost →
+    ChunkTurned (form_as from) (other_as from) least last.work.count (take (size - 0) input) before turn.work out →
+    turn.told ≡ (if turn.lost then last.work.count else turn.work.count) →
+    turn.more ≡ goes_on turn.chunk turn.work.stopped turn.lost →
     Turned from (place_at last entry) turn input out
 turned from {last} {turn} {entry} {kept} {input} {n} g hk hi k r es el c t m =
     let p : Place = place_at last entry in
@@ -67,8 +66,8 @@ unfolding convert_chunks
 none_yet from input = record { chunks = []; counted = refl; place = refl; going = refl }
 
 module _ {from : Form} {before : Place} {turn : Turn} {input out : List ℕ} (m : turn.more ≡ true) (t : Turned from before turn input out) where
-  is : (eqb turn.chunk.size chunk_bytes ≡ true) × (turn.converted.stopped ≡ false) × (turn.chunk.cut ≡ false)
-  is = more_is turn.chunk turn.converted.stopped turn.lost (sym t.more ∙ m)
+  is : (eqb turn.chunk.size chunk_bytes ≡ true) × (turn.work.stopped ≡ false) × (turn.chunk.cut ≡ false)
+  is = more_is turn.chunk turn.work.stopped turn.lost (sym t.more ∙ m)
 
   pub more_going : Going turn
   more_going = record { more = m; stopped = is.1; at = t.at; size = t.size }
@@ -82,6 +81,10 @@ module _ {from : Form} {before : Place} {turn : Turn} {input out : List ℕ} (m 
         place = rw (chunks_more (form_as from) (other_as from) beginning r.chunks bytes, ← r.place) (rw is.0 at t.place);
         going = is.1;
       }
+
+-- the last chunk is where the loop ended
+pub ended : {from : Form} {k : ℕ} {turn : Turn} {input out : List ℕ} → Last from k turn input out → (turn.more ≡ true → k ≡ most_chunks) → Ended from turn input out
+ended l b = record { before = l.before; place = l.place; reached = l.reached; last = l.last; bound = λ m. l.counted ∙ b m }
 
 -- A CONVERSION THAT DID NOT BREAK OFF
 
@@ -107,19 +110,19 @@ module _ {from : Form} {turn : Turn} {input out : List ℕ} (e : Ended from turn
   bytes = bytes_of p turn input
 
   -- It was the end of the input that ended it, or a refusal: the last chunk is short, or something of it was refused.
-  pub end_reached : (turn.chunk.size < chunk_bytes) ⊎ (turn.converted.stopped ≡ true)
-  end_reached = end_is turn.chunk turn.converted.stopped turn.lost turn.more e.last.size e.last.more h
+  pub end_reached : (turn.chunk.size < chunk_bytes) ⊎ (turn.work.stopped ≡ true)
+  end_reached = end_is turn.chunk turn.work.stopped turn.lost turn.more e.last.size e.last.more h
 
   -- the output of the last chunk is that of an input that has ended
-  last_output : take turn.converted.end out ≡ (convert_on (form_as from) (other_as from) 1 p bytes).output
+  last_output : take turn.work.end out ≡ (convert_on (form_as from) (other_as from) 1 p bytes).output
   unfolding p bytes
   last_output = by (eqb turn.chunk.size chunk_bytes || turn.chunk.cut) refl
     where
-      refused : (turn.chunk.size < chunk_bytes) ⊎ (turn.converted.stopped ≡ true) → (eqb turn.chunk.size chunk_bytes || turn.chunk.cut) ≡ true → turn.converted.stopped ≡ true
+      refused : (turn.chunk.size < chunk_bytes) ⊎ (turn.work.stopped ≡ true) → (eqb turn.chunk.size chunk_bytes || turn.chunk.cut) ≡ true → turn.work.stopped ≡ true
       refused (inl l) g = held_not turn.chunk turn.lost turn.more h l g
       refused (inr s) g = s
 
-      by : (held : Bool) → (eqb turn.chunk.size chunk_bytes || turn.chunk.cut) ≡ held → take turn.converted.end out ≡ (convert_on (form_as from) (other_as from) 1 p bytes).output
+      by : (held : Bool) → (eqb turn.chunk.size chunk_bytes || turn.chunk.cut) ≡ held → take turn.work.end out ≡ (convert_on (form_as from) (other_as from) 1 p bytes).output
       by false g = rw g at e.last.output
       by true g =
           let stopped = refused end_reached g in
@@ -129,7 +132,7 @@ module _ {from : Form} {turn : Turn} {input out : List ℕ} (e : Ended from turn
 
   -- The output of the chunks before the last, by definition, and that of the last in the buffer are the output of the whole input.
   pub output_whole :
-      (convert_chunks (form_as from) (other_as from) beginning e.reached.chunks).output ++ take turn.converted.end out
+      (convert_chunks (form_as from) (other_as from) beginning e.reached.chunks).output ++ take turn.work.end out
       ≡ (convert (form_as from) (other_as from) 1 0 (flatten e.reached.chunks ++ bytes_of e.place turn input)).output
   unfolding p bytes
   output_whole =

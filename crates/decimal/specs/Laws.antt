@@ -1,8 +1,10 @@
 -- How text is stored part by part, in its order or from the back, and what a buffer then holds.
-use Rattle.std.specs.Prelude.{◌≡◌, refl, List, [], ◌∷◌, ◌++◌, ℕ, suc, ◌+◌, ◌<◌, ◌≤◌, length, set, take, drop}
-use Rattle.std.proofs.Common.{sym, ap, ◌∙◌, add-zero, add-suc, suc-add, arith, length-append, take_at, length-take-le}
+use Rattle.std.specs.Prelude.{◌≡◌, Option, Some, None, IfSome, IfNone, unwrap_or, refl, List, [], ◌∷◌, ◌++◌, ℕ, zero, suc, ◌+◌, ◌*◌, ◌/◌, ◌%◌, ◌^◌, ◌<◌, ◌≤◌, length, set, take, drop}
+use Rattle.std.proofs.Common.{sym, ap, ◌∙◌, pow-suc, add-zero, add-suc, suc-add, arith, length-append, take_at, length-take-le}
 use Rattle.std.proofs.lemmas.List.Edits.{sets, sets-eq}
 use Rattle.std.proofs.lemmas.List.{set_comm}
+use Rattle.model.specs.Text.{digit, decimal_text}
+use Rattle.model.proofs.TextLaws.{one_digit, last_digit}
 use Rattle.decimal.specs.Bridge.{Written}
 
 -- where there is room, the buffer is what stood in front, the text, and what stood behind
@@ -60,3 +62,24 @@ first_left {l} {m} {at} {p} {s} {t} f g =
 
 pub ended : {l m : List ℕ} {at p : ℕ} {s : List ℕ} → Written m p [] (at + length s) (sets l at s) → Written l at s p m
 ended f = record { place = omega (arith, f.place); bytes = sym f.bytes }
+
+-- HOW LONG A NUMBER IS
+
+power_some : (k : ℕ) → 1 ≤ 10 ^ k
+power_some zero = omega arith
+power_some (suc k) = omega (arith, pow-suc 10 k, power_some k)
+
+digits_exactly : (k n : ℕ) → 10 ^ k ≤ n → n < 10 * 10 ^ k → length (decimal_text n) ≡ k + 1
+digits_exactly zero n h g = ap length (one_digit n (omega arith))
+digits_exactly (suc k) n h g =
+    let p : 10 ^ suc k ≡ 10 ^ k * 10 = pow-suc 10 k in
+    let some = power_some k in
+    ap length (last_digit n (omega arith))
+    ∙ length-append (decimal_text (n / 10)) (digit (n % 10) ∷ [])
+    ∙ ap (λ (i : ℕ). i + 1) (digits_exactly k (n / 10) (omega arith) (omega arith))
+    ∙ omega arith
+
+-- by the greatest power of ten that the number holds, where it holds one
+pub digits_told : (o : Option ℕ) (n : ℕ) → IfNone o (n ≡ 0) → IfSome o (λ k. 10 ^ k ≤ n) → IfSome o (λ k. n < 10 * 10 ^ k) → unwrap_or o 0 + 1 ≡ length (decimal_text n)
+digits_told None n z h g = sym (ap length (one_digit n (omega arith)))
+digits_told (Some k) n z h g = sym (digits_exactly k n h g)

@@ -1,19 +1,20 @@
 -- How the promise of a kind gives the promise of an access: one law for an arm of the match, and one for each refusal in front of it.
-use Rattle.std.specs.Prelude.{◌≡◌, refl, Bool, true, false, ◌&&◌, List, ℕ, zero, suc, ◌≤◌}
-use Rattle.std.proofs.Common.{ap, sym, ◌∙◌, zero-le, arith}
+use Rattle.std.specs.Prelude.{◌≡◌, refl, Bool, true, false, ◌&&◌, List, ℕ, zero, suc, ◌≤◌, Err}
+use Rattle.std.proofs.Common.{sym, ◌∙◌, zero-le, arith}
 use Rattle.model.specs.Checks.{above}
 use Rattle.model.specs.Settings.{lengths_fit}
 use Rattle.model.specs.State.{sound}
 use Rattle.model.specs.Accesses.{kind_of, fit, access}
 use Rattle.model.proofs.KindLaws.{refused_with, unfit_is, no_side_is, no_kind_is, kind_is}
 use Rattle.access.specs.declared.Access.{Access}
-use Rattle.access.specs.declared.Answer.TheVariants.{Refused}
-use Rattle.access.specs.Bridge.{access_as}
+use Rattle.access.specs.declared.Refusal.{Refusal}
+use Rattle.access.specs.declared.Refusal.TheVariants.{Unfit, Unknown}
+use Rattle.access.specs.Bridge.{access_as, number_of}
+use Rattle.access.specs.Laws.{number_positive}
 use Rattle.settings.specs.Bridge.{settings_as}
 use Rattle.card.specs.declared.Card.{Card}
 use Rattle.card.specs.declared.Outcome.{Outcome}
 use Rattle.card.specs.Bridge.{state_as, world_as, Did}
-use Rattle.card.specs.Laws.{number_as}
 use Rattle.device.specs.Bridge.{Accessed}
 
 module _ (card : Card) (q : Access) (m w : List ℕ) where
@@ -23,17 +24,17 @@ module _ (card : Card) (q : Access) (m w : List ℕ) where
 
   -- refused before a kind is looked at
   module _ {r : Outcome} where
-    refused_arm : (n : ℕ) → (n ≡ 0 → ⊥) → access (world_as card m w) (access_as q) ≡ refused_with n (world_as card m w) → r ≡ record { card = card; answer = Refused n } → Accessed card q m w r m w
-    refused_arm n z h e = rw e (sym h, (λ _. refl, λ e. z (ap number_as e)))
+    refused_arm : (f : Refusal) → access (world_as card m w) (access_as q) ≡ refused_with (number_of f) (world_as card m w) → r ≡ record { card = card; answer = Err f } → Accessed card q m w r m w
+    refused_arm f h e = rw e (sym h, (λ _. refl, λ z. absurd (let p = number_positive f in omega (arith, p, z))))
 
-    pub unfit_arm : fit (world_as card m w) ≡ false → r ≡ record { card = card; answer = Refused 1 } → Accessed card q m w r m w
-    unfit_arm h = refused_arm 1 (λ z. omega arith) (unfit_is (world_as card m w) (access_as q) h)
+    pub unfit_arm : fit (world_as card m w) ≡ false → r ≡ record { card = card; answer = Err Unfit } → Accessed card q m w r m w
+    unfit_arm h = refused_arm Unfit (unfit_is (world_as card m w) (access_as q) h)
 
-    pub side_arm : fit (world_as card m w) ≡ true → above 1 q.side ≡ true → r ≡ record { card = card; answer = Refused 2 } → Accessed card q m w r m w
-    side_arm h k = refused_arm 2 (λ z. omega arith) (no_side_is (world_as card m w) (access_as q) h k)
+    pub side_arm : fit (world_as card m w) ≡ true → above 1 q.side ≡ true → r ≡ record { card = card; answer = Err Unknown } → Accessed card q m w r m w
+    side_arm h k = refused_arm Unknown (no_side_is (world_as card m w) (access_as q) h k)
 
-    pub kind_arm : fit (world_as card m w) ≡ true → above 16 q.kind ≡ true → r ≡ record { card = card; answer = Refused 2 } → Accessed card q m w r m w
-    kind_arm h k = refused_arm 2 (λ z. omega arith) (no_kind_is (world_as card m w) (access_as q) h k)
+    pub kind_arm : fit (world_as card m w) ≡ true → above 16 q.kind ≡ true → r ≡ record { card = card; answer = Err Unknown } → Accessed card q m w r m w
+    kind_arm h k = refused_arm Unknown (no_kind_is (world_as card m w) (access_as q) h k)
 
 -- fit by two tests
 pub fit_is : (card : Card) (m w : List ℕ) (fine lengths : Bool) → fine ≡ sound (state_as card) → lengths ≡ lengths_fit (settings_as card.settings) m w → (fine && lengths) ≡ fit (world_as card m w)

@@ -3,170 +3,41 @@
 // What stands in both files is said where they are made, in oracle/src/programs/device/mod.rs.
 #![tactic(auto)]
 
-ghost use Rattle.std.specs.Prelude.{◌≡◌, length};
-
-use access::Access;
-use card::{Card, Outcome};
-use case_card::Head;
+use card::Card;
+use case_card::{Asked, Call, Head};
 use settings::Settings;
-use testing::{number_at, show};
+use testing::show_line;
 
-// WHAT A CASE SAYS: numbers of four bytes, least byte first
-
-fn access_of(bytes: &[u8]) -> Access {
-    let packed = number_at(bytes, 0);
-    Access {
-        kind: (packed % 256) as u8,
-        side: (packed / 256 % 256) as u8,
-        s: (packed / 65536 % 256) as u8,
-        a: number_at(bytes, 1),
-        b: number_at(bytes, 2),
-        c: number_at(bytes, 3),
-    }
-}
-
-// L4: a call is an access, or a register access.
-#[derive(Clone, Copy)]
-enum Call {
-    Direct(Access),
-    Register(u8, u32, u8, u32),
-}
-
-fn call_of(bytes: &[u8]) -> Call {
-    let packed = number_at(bytes, 0);
-    if packed / 16777216 == 1 {
-        return Call::Register(
-            (packed / 256 % 256) as u8,
-            number_at(bytes, 1),
-            (packed % 256) as u8,
-            number_at(bytes, 2),
-        );
-    }
-    Call::Direct(access_of(bytes))
-}
-
-fn read_call() -> Call {
-    let mut bytes = [0u8; 16];
-    testing::read_bytes(&mut bytes);
-    call_of(&bytes)
-}
-
-fn read_access() -> Access {
-    let mut bytes = [0u8; 16];
-    testing::read_bytes(&mut bytes);
-    access_of(&bytes)
-}
-
-// The number of a memory's next byte.
-fn next(x: u64) -> u64 {
-    (x % 2147483648 * 1103515245 + 12345) % 2147483648
-}
-
-// Fills a memory from a seed.
-fn fill(memory: &mut [u8], seed: u64) {
-    let mut x = seed;
-    let mut i = 0;
-    while i < memory.len() {
-        x = next(x);
-        memory[i] = (x / 65536 % 256) as u8;
-        i += 1;
-    }
-}
-
-// THE CASES
-
-fn answer_call(card: Card, shared: &mut [u8], window: &mut [u8], call: Call) -> Outcome {
-    match call {
-        Call::Direct(q) => device::access(card, shared, window, q),
-        Call::Register(side, offset, direction, dword) => {
-            registers::register_access(card, shared, window, side, offset, direction, dword)
-        }
-    }
-}
-
-// Calls, each with its answer.
-fn run_calls(card: Card, shared: &mut [u8], window: &mut [u8], count: u32) -> Card {
-    let mut now = card;
-    let mut left = count;
-    while left > 0 {
-        let call = read_call();
-        let outcome = answer_call(now, shared, window, call);
-        let answer = outcome.answer;
-        case_card::show_answer(answer);
-        now = outcome.card;
-        left -= 1;
-    }
-    now
+// L4: a call is an access, or a register access. Its answer is written.
+fn answer_call(card: Card, shared: &mut [u8], window: &mut [u8]) -> Card {
+    let outcome = match case_card::read_call() {
+        (Call::Register, q) => registers::register_access(
+            card, shared, window, q.side, q.a, q.kind, q.b,
+        ),
+        (_, q) => device::access(card, shared, window, q),
+    };
+    case_card::show_answer(outcome.answer);
+    outcome.card
 }
 
 // A source asked for: the length and the digest of its part.
-fn run_source<'a>(settings: Settings, shared: &'a [u8], window: &'a [u8]) {
-    let q = read_access();
+fn answer_source(settings: Settings, shared: &[u8], window: &[u8]) {
+    let (_, q) = case_card::read_call();
     let part = source::source(settings, shared, window, q.s, q.a, q.b, q.c);
-    show(part.len() as u64, b' ');
-    show(testing::digest(part), b'\n');
+    show_line(&[part.len() as u64, testing::digest(part)]);
 }
 
-fn run_sources<'a>(settings: Settings, shared: &'a [u8], window: &'a [u8], count: u32) {
-    let mut left = count;
-    while left > 0 {
-        run_source(settings, shared, window);
-        left -= 1;
+// A case asks for sources, or has calls to its card.
+fn answer_case(head: Head, shared: &mut [u8], window: &mut [u8]) {
+    if head.asked == Asked::Sources {
+        for _ in 0..head.count {
+            answer_source(head.settings, shared, window);
+        }
+    } else {
+        case_card::run_calls(head, shared, window, answer_call);
     }
-}
-
-// Calls to the card of a case, then the record and the digests.
-fn run_card(what: u32, settings: Settings, count: u32, shared: &mut [u8], window: &mut [u8]) {
-    let card = case_card::first_card(what, settings);
-    case_card::show_card(run_calls(card, shared, window, count));
-    show(testing::digest(shared), b' ');
-    show(testing::digest(window), b'\n');
-}
-
-// A case with these memories.
-fn run_on(head: Head, shared: &mut [u8], window: &mut [u8]) {
-    let settings = head.settings;
-    fill(shared, head.seed as u64);
-    fill(window, head.seed as u64 + 1);
-    if head.what == 2 {
-        run_sources(settings, shared, window, head.count);
-        return;
-    }
-    run_card(head.what, settings, head.count, shared, window);
-}
-
-// Reads a case and answers it; false where the input ends.
-fn run_case(shared: &mut [u8], window: &mut [u8]) -> bool {
-    let head = case_card::read_head();
-    if !head.whole {
-        return false;
-    }
-    let s = head.shared as usize;
-    let w = head.window as usize;
-    if s > shared.len() || w > window.len() {
-        return false;
-    }
-    run_on(head, &mut shared[0..s], &mut window[0..w]);
-    true
-}
-
-// The turns are counted, since nothing says that the input ends.
-fn run_all(shared: &mut [u8], window: &mut [u8]) {
-    let mut turns = testing::TURNS;
-    while turns > 0 && run_case(shared, window) {
-        turns -= 1;
-    }
-}
-
-// Room for a memory.
-fn room() -> [u8; 65600]
-    ensures { 65600 ≡ length result }
-{
-    [0; 65600]
 }
 
 fn main() {
-    let mut shared = room();
-    let mut window = room();
-    run_all(&mut shared, &mut window);
+    case_card::each_case(answer_case);
 }

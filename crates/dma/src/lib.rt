@@ -1,7 +1,7 @@
 // Document 02, L4: the DMA registers by value, which a transfer is programmed in. Pages are those of document 000, the data sheet.
 #![tactic(auto)]
 
-ghost use Rattle.std.specs.Prelude.{◌≡◌};
+ghost use Rattle.std.specs.Prelude.{◌≡◌, ◌<◌};
 ghost use Rattle.model.specs.Sides.{side_of};
 ghost use Rattle.model.specs.Events.{bit};
 ghost use Rattle.model.specs.Dma.{fresh_dma, bits_of, stored_in, with_stored, shown, programmed, control_value, owner_bit, owner_written, control_written, request_in};
@@ -13,7 +13,7 @@ use arbitration::Pair;
 use transfer::Request;
 
 // DMALBASE, DMAHBASE and DMASIZE, named as in a transfer; and DMACTL: the flags P and L, PI and W.
-#[derive(Clone, Copy)]
+#[derive(Clone, Copy, Default)]
 pub struct Dma {
     pub shared: u32,
     pub pci: u32,
@@ -44,15 +44,18 @@ impl Programmed {
     }
 }
 
+fn bit(position: u32, dword: u32) -> bool
+    requires { position < 32 }
+    ensures { result ≡ bit position dword }
+{
+    (dword >> position) & 1 == 1
+}
+
 // DMACTL's bits: 9 L, 8 P, 1 PI, 0 W (page 37). A side's own ownership bit.
 fn owner_bit(side: u8, dword: u32) -> bool
     ensures { result ≡ bit (owner_bit (side_of side)) dword }
 {
-    if side == access::HOST {
-        dword / 256 % 2 == 1
-    } else {
-        dword / 512 % 2 == 1
-    }
+    bit(if side == access::HOST { 8 } else { 9 }, dword)
 }
 
 // "Updates the value if and only if" the other side's bit is not set; "never" that one (page 37).
@@ -69,18 +72,7 @@ impl Dma {
     pub fn fresh() -> Dma
         ensures { dma_as result ≡ fresh_dma }
     {
-        let owner = Pair {
-            host: false,
-            local: false,
-        };
-        Dma {
-            shared: 0,
-            pci: 0,
-            size: 0,
-            owner: owner,
-            inhibit: false,
-            outward: false,
-        }
+        Dma::default()
     }
 
     fn stored(self, which: Programmed) -> u32
@@ -96,13 +88,14 @@ impl Dma {
     fn with_stored(self, which: Programmed, word: u32) -> Dma
         ensures { dma_as result ≡ with_stored (programmed_as which) word (dma_as self) }
     {
-        let mut dma = self;
         match which {
-            Programmed::Dmalbase => dma.shared = word,
-            Programmed::Dmahbase => dma.pci = word,
-            Programmed::Dmasize => dma.size = word,
+            Programmed::Dmalbase => Dma {
+                shared: word,
+                ..self
+            },
+            Programmed::Dmahbase => Dma { pci: word, ..self },
+            Programmed::Dmasize => Dma { size: word, ..self },
         }
-        dma
     }
 
     // A register as it reads: its bits alone.
@@ -123,8 +116,7 @@ impl Dma {
     pub fn control(self) -> u32
         ensures { result ≡ control_value (dma_as self) }
     {
-        let owner = self.owner;
-        owner.value() * 256
+        self.owner.value() * 256
             + arbitration::weighed(self.inhibit, 2)
             + arbitration::weighed(self.outward, 1)
     }
@@ -133,14 +125,11 @@ impl Dma {
     pub fn write_control(self, side: u8, dword: u32) -> Dma
         ensures { dma_as result ≡ control_written (side_of side) dword (dma_as self) }
     {
-        let owner = self.owner;
         Dma {
-            shared: self.shared,
-            pci: self.pci,
-            size: self.size,
-            owner: owner_written(owner, side, dword),
-            inhibit: dword / 2 % 2 == 1,
-            outward: dword % 2 == 1,
+            owner: owner_written(self.owner, side, dword),
+            inhibit: bit(1, dword),
+            outward: bit(0, dword),
+            ..self
         }
     }
 

@@ -1,5 +1,5 @@
 -- Laws of the DMA registers in the card: one read or written, and the start that a write of DMACTL is.
-use Rattle.std.specs.Prelude.{◌≡◌, refl, List, ℕ}
+use Rattle.std.specs.Prelude.{◌≡◌, refl, ⊤, List, ℕ, Ok, Err}
 use Rattle.std.proofs.Common.{ap, sym, subst, ◌∙◌}
 use Rattle.model.specs.Sides.{Side}
 use Rattle.model.specs.Transfer.{Request}
@@ -8,7 +8,8 @@ use Rattle.model.specs.Dma.{Programmed, programmed, control_written, request_in}
 use Rattle.model.specs.State.{with_dma}
 use Rattle.model.specs.RegisterMap.{dma_register, dmactl}
 use Rattle.model.specs.Registers.{plainly, start_row, write_row}
-use Rattle.access.specs.declared.Answer.TheVariants.{Done, Refused}
+use Rattle.access.specs.declared.Done.{Done}
+use Rattle.access.specs.declared.Refusal.{Refusal}
 use Rattle.dma.specs.declared.Dma.{Dma}
 use Rattle.dma.specs.Bridge.{dma_as}
 use Rattle.card.specs.declared.Card.{Card}
@@ -27,9 +28,9 @@ module _ (c : Card) (m w : List ℕ) where
 
   module _ (side : Side) (dword : ℕ) where
     pub register_written_lem : (p : Programmed) (k : Card) (d : Dma) → dma_as d ≡ programmed p dword (dma_as c.dma) → state_as k ≡ with_dma (dma_as d) (state_as c) →
-        Settles (write_row (dma_register p) (world_as c m w) side dword) c m w (record { card = k; answer = Done 0 0 }) m w
+        Settles (write_row (dma_register p) (world_as c m w) side dword) c m w (record { card = k; answer = Ok (record { v = 0; x = 0 }) }) m w
     register_written_lem p k d e s =
-        done_settles (write_row (dma_register p) (world_as c m w) side dword) c m w (record { card = k; answer = Done 0 0 }) refl refl
+        done_settles (write_row (dma_register p) (world_as c m w) side dword) c m w (record { card = k; answer = Ok (record { v = 0; x = 0 }) }) refl refl
         (record { answer = refl; state = changed k c d (programmed p dword) e s })
 
     -- kind 14 with the transfer that is programmed
@@ -38,14 +39,14 @@ module _ (c : Card) (m w : List ℕ) where
     start_programmed t {r} e = subst (λ t. Settles (start_row (world_as c m w) side t) c m w r m w) (e ∙ ap (λ d. request_in d dword) (sym (dma_is_lem c)))
 
     module _ {o : Outcome} (started : Settles (start_row (world_as c m w) side (request_in (state_as c).dma dword)) c m w o m w) where
-      pub start_refused : (n : ℕ) → o.answer ≡ Refused n → Settles (write_row dmactl (world_as c m w) side dword) c m w (record { card = c; answer = Refused n }) m w
-      start_refused n e =
-          let r = settled_refused (start_row (world_as c m w) side (request_in (state_as c).dma dword)) c m w started n e in
-          refused_settles (write_row dmactl (world_as c m w) side dword) c m w n r.0 r.1
+      pub start_refused : (f : Refusal) → o.answer ≡ Err f → Settles (write_row dmactl (world_as c m w) side dword) c m w (record { card = c; answer = Err f }) m w
+      start_refused f e =
+          refused_settles (write_row dmactl (world_as c m w) side dword) c m w {T = ⊤} (Err f) f refl
+          (settled_refused (start_row (world_as c m w) side (request_in (state_as c).dma dword)) c m w started f e).0
 
-      pub start_done : (v x : ℕ) (k : Card) (d : Dma) → o.answer ≡ Done v x → dma_as d ≡ control_written side dword (dma_as c.dma) → state_as k ≡ with_dma (dma_as d) (state_as o.card) →
-          Settles (write_row dmactl (world_as c m w) side dword) c m w (record { card = k; answer = Done v x }) m w
-      start_done v x k d a e s =
-          let r = settled_done (start_row (world_as c m w) side (request_in (state_as c).dma dword)) c m w started v x a in
-          done_settles (write_row dmactl (world_as c m w) side dword) c m w (record { card = k; answer = Done v x }) r.0 refl
+      pub start_done : (done : Done) (k : Card) (d : Dma) → o.answer ≡ Ok done → dma_as d ≡ control_written side dword (dma_as c.dma) → state_as k ≡ with_dma (dma_as d) (state_as o.card) →
+          Settles (write_row dmactl (world_as c m w) side dword) c m w (record { card = k; answer = Ok done }) m w
+      start_done done k d a e s =
+          let r = settled_done (start_row (world_as c m w) side (request_in (state_as c).dma dword)) c m w started done a in
+          done_settles (write_row dmactl (world_as c m w) side dword) c m w (record { card = k; answer = Ok done }) r.0 refl
           (record { answer = sym a ∙ r.1.answer; state = changed k o.card d (control_written side dword) e s ∙ ap (with_dma (control_written side dword (state_as c).dma)) r.1.state })

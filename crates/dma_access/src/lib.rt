@@ -9,7 +9,7 @@ ghost use Rattle.model.specs.Registers.{start_row, read_row, write_row};
 ghost use Rattle.dma.specs.Bridge.{programmed_as};
 ghost use Rattle.card.specs.Bridge.{state_as, world_as, Settles};
 
-use access::{Access, Answer};
+use access::{Access, Done, Kind};
 use card::{Card, Outcome};
 use dma::Programmed;
 
@@ -17,34 +17,30 @@ use dma::Programmed;
 pub fn read(card: Card, which: Programmed, side: u8, dword: u32) -> Outcome
     ensures { (m w : List ℕ) → Settles (read_row (dma_register (programmed_as which)) (world_as card m w) (side_of side) dword) card m w result m w }
 {
-    let dma = card.dma;
-    plain_read::told(card, dword, dma.shown(which))
+    plain_read::told(card, dword, card.dma.shown(which))
 }
 
 pub fn write(card: Card, which: Programmed, side: u8, dword: u32) -> Outcome
     ensures { (m w : List ℕ) → Settles (write_row (dma_register (programmed_as which)) (world_as card m w) (side_of side) dword) card m w result m w }
 {
-    let dma = card.dma;
-    card.with_dma(dma.program(which, dword)).done(0, 0)
+    card.with_dma(card.dma.program(which, dword)).done(0, 0)
 }
 
 // DMACTL
 pub fn read_control(card: Card, side: u8, dword: u32) -> Outcome
     ensures { (m w : List ℕ) → Settles (read_row dmactl (world_as card m w) (side_of side) dword) card m w result m w }
 {
-    let dma = card.dma;
-    plain_read::told(card, dword, dma.control())
+    plain_read::told(card, dword, card.dma.control())
 }
 
 // Kind 14 with the transfer that is programmed.
 fn start(card: Card, side: u8, dword: u32) -> Outcome
     ensures { (m w : List ℕ) → Settles (start_row (world_as card m w) (side_of side) (request_in (state_as card).dma dword)) card m w result m w }
 {
-    let dma = card.dma;
-    let request = dma.request(dword);
+    let request = card.dma.request(dword);
     let q = Access {
-        kind: 14,
-        side: side,
+        kind: Kind::Start as u8,
+        side,
         s: request.direction,
         a: request.shared,
         b: request.pci,
@@ -57,12 +53,10 @@ fn start(card: Card, side: u8, dword: u32) -> Outcome
 pub fn write_control(card: Card, side: u8, dword: u32) -> Outcome
     ensures { (m w : List ℕ) → Settles (write_row dmactl (world_as card m w) (side_of side) dword) card m w result m w }
 {
-    let dma = card.dma;
     let started = start(card, side, dword);
-    let answer = started.answer;
-    let after = started.card.with_dma(dma.write_control(side, dword));
-    match answer {
-        Answer::Refused(n) => card.refused(n),
-        Answer::Done(v, x) => after.done(v, x),
+    let after = started.card.with_dma(card.dma.write_control(side, dword));
+    match started.answer {
+        Err(refusal) => card.refused(refusal),
+        Ok(Done { v, x }) => after.done(v, x),
     }
 }

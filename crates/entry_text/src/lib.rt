@@ -12,6 +12,7 @@ use decimal::{write_field, write_word};
 use scan::Entry;
 
 // A word and two numbers: at most 20 digits each.
+#[tactic(auto, using(model::proofs::TextLaws::digits_64))]
 fn write_pair(out: &mut [u8], at: usize, word: &[u8], first: u64, second: u64) -> usize
     requires { at + length word.now + 42 ≤ length out.old }
     ensures written { Written out.old at (word.now ++ field_text first 32 ++ field_text second 10) result out.new }
@@ -23,6 +24,7 @@ fn write_pair(out: &mut [u8], at: usize, word: &[u8], first: u64, second: u64) -
 }
 
 // "`kept AT NUMBER`, `doubtful AT NUMBER`, `skipped AT LENGTH`."
+#[tactic(auto, unfolding(model::specs::RescueText::entry_text))]
 pub fn write_entry(out: &mut [u8], at: usize, e: Entry) -> usize
     requires { at + 51 ≤ length out.old }
     ensures written { Written out.old at (entry_text (entry_as e)) result out.new }
@@ -36,7 +38,7 @@ pub fn write_entry(out: &mut [u8], at: usize, e: Entry) -> usize
 }
 
 // "The kept records (doubtful ones included), how many of them are doubtful, the bytes skipped."
-#[derive(Clone, Copy)]
+#[derive(Clone, Copy, Default)]
 pub struct Tally {
     pub kept: u64,
     pub doubtful: u64,
@@ -47,11 +49,7 @@ impl Tally {
     pub fn none() -> Tally
         ensures { result ≡ record { kept = 0; doubtful = 0; skipped = 0 } }
     {
-        Tally {
-            kept: 0,
-            doubtful: 0,
-            skipped: 0,
-        }
+        Tally::default()
     }
 
     // With one entry more.
@@ -62,24 +60,23 @@ impl Tally {
         match e {
             Entry::Kept(_, _) => Tally {
                 kept: self.kept + 1,
-                doubtful: self.doubtful,
-                skipped: self.skipped,
+                ..self
             },
             Entry::Doubtful(_, _) => Tally {
                 kept: self.kept + 1,
                 doubtful: self.doubtful + 1,
-                skipped: self.skipped,
+                ..self
             },
             Entry::Skipped(_, size) => Tally {
-                kept: self.kept,
-                doubtful: self.doubtful,
                 skipped: self.skipped + size,
+                ..self
             },
         }
     }
 }
 
 // "`end KEPT DOUBTFUL SKIPPED`": at most 20 digits each.
+#[tactic(auto, using(model::proofs::TextLaws::digits_64))]
 pub fn write_totals(out: &mut [u8], at: usize, t: Tally) -> usize
     requires { at + 67 ≤ length out.old }
     ensures written { Written out.old at (total_text (tally_as t)) result out.new }

@@ -10,7 +10,7 @@ ghost use Rattle.model.specs.Why.{reserved};
 ghost use Rattle.events.specs.Bridge.{register_as, raised_all};
 
 // A set of events: the bit at an event's position says whether it is in.
-#[derive(Clone, Copy)]
+#[derive(Clone, Copy, Default)]
 pub struct EventSet(pub u32);
 
 pub const NONE: EventSet = EventSet(0);
@@ -112,14 +112,11 @@ fn enable_mask(side: u8) -> EventSet
 pub fn reserved(side: u8, position: u8) -> bool
     ensures { result ≡ reserved (side_of side) position }
 {
-    if position > 9 {
-        return true;
-    }
-    !enable_mask(side).has(position)
+    position > 9 || !enable_mask(side).has(position)
 }
 
 // An interrupt register: the enables, and the event status that is stored.
-#[derive(Clone, Copy)]
+#[derive(Clone, Copy, Default)]
 pub struct Register {
     pub enables: EventSet,
     pub status: EventSet,
@@ -129,20 +126,15 @@ impl Register {
     pub fn fresh() -> Register
         ensures { register_as result ≡ fresh_register }
     {
-        Register {
-            enables: NONE,
-            status: NONE,
-        }
+        Register::default()
     }
 
     pub fn raise(self, events: EventSet) -> Register
         ensures { register_as result ≡ raised_all events.0 (register_as self) }
     {
-        let enables = self.enables;
-        let status = self.status;
         Register {
-            enables: enables,
-            status: status.insert(events),
+            status: self.status.insert(events),
+            ..self
         }
     }
 
@@ -150,10 +142,9 @@ impl Register {
     pub fn write(self, side: u8, value: u32) -> Register
         ensures { register_as result ≡ cleared_in value (enables_in (common (value / 65536) (enable_mask (side_of side))) (register_as self)) }
     {
-        let status = self.status;
         Register {
             enables: EventSet(value >> 16).common(enable_mask(side)),
-            status: status.remove(EventSet(value)),
+            status: self.status.remove(EventSet(value)),
         }
     }
 
@@ -162,25 +153,21 @@ impl Register {
         requires { (self.enables.0 < 65536) × (self.status.0 < 65536) × (live.0 < 65536) }
         ensures { result ≡ register_value live.0 (register_as self) }
     {
-        let enables = self.enables;
         let status = self.status.insert(live);
-        enables.0 * 65536 + status.0
+        self.enables.0 * 65536 + status.0
     }
 
     // "A line is active exactly when some position has status and enable both set."
     pub fn line(self, live: EventSet) -> bool
         ensures { result ≡ active live.0 (register_as self) }
     {
-        let enables = self.enables;
-        self.status.insert(live).meets(enables)
+        self.status.insert(live).meets(self.enables)
     }
 
     // "Stored event bits exist for that side and exclude 6 and 7, enable bits exist for that side."
     pub fn sound(self, side: u8) -> bool
         ensures { result ≡ register_sound (side_of side) (register_as self) }
     {
-        let enables = self.enables;
-        let status = self.status;
-        stored_mask(side).contains(status) & enable_mask(side).contains(enables)
+        stored_mask(side).contains(self.status) & enable_mask(side).contains(self.enables)
     }
 }

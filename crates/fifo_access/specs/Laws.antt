@@ -1,5 +1,5 @@
 -- Laws of take and put: who puts, told by numbers, and the effects branch by branch, by what the card's FIFOs gave.
-use Rattle.std.specs.Prelude.{◌≡◌, refl, Bool, true, false, ◌||◌, List, [], ◌∷◌, ℕ, zero, suc, ◌+◌, length, eqb, ltb}
+use Rattle.std.specs.Prelude.{◌≡◌, refl, Bool, true, false, Option, Some, None, Ok, ◌||◌, List, [], ◌∷◌, ℕ, zero, suc, ◌+◌, length, eqb, ltb}
 use Rattle.std.proofs.Common.{ap, sym, ◌∙◌, arith, ne_eqb}
 use Rattle.model.specs.Sides.{Side, host, local}
 use Rattle.model.specs.Events.{mask}
@@ -8,8 +8,7 @@ use Rattle.model.specs.State.{with_fifos, with_interrupts}
 use Rattle.model.specs.Changes.{nothing, Effect}
 use Rattle.model.specs.FifosAndFlags.{overflow, taken_from, put_into}
 use Rattle.model.proofs.TestLaws.{no_both, or-false, if_case}
-use Rattle.access.specs.declared.Answer.TheVariants.{Done}
-use Rattle.fifos.specs.declared.Put.{Put}
+use Rattle.fifos.specs.declared.Fifos.{Fifos}
 use Rattle.fifos.specs.declared.Taken.{Taken}
 use Rattle.fifos.specs.Bridge.{fifos_as, PutOn, put_on, put_as, TakenOff, taken_off, taken_as}
 use Rattle.fifos.specs.Laws.{kept_is}
@@ -44,30 +43,36 @@ put_stores side i l v = if_case (λ (e : Effect). e.store ≡ nothing) (ltb (len
 
 module _ (c : Card) (i : ℕ) where
   -- what the FIFOs' put promises, of the FIFOs as the definition has them, and whether there was room
-  put_is : (v : ℕ) (p : Put) (b : Bool) → put_as p ≡ put_on i v (fifos_as c.fifos) → p.kept ≡ b →
-      (put_as p ≡ put_on i v (state_as c).fifos) × (ltb (length (entries_of (state_as c).fifos i)) 32 ≡ b)
+  put_is : (v : ℕ) (p : Option Fifos) (b : Bool) → put_as i c.fifos p ≡ put_on i v (fifos_as c.fifos) → (put_as i c.fifos p).kept ≡ b →
+      (put_as i c.fifos p ≡ put_on i v (state_as c).fifos) × (ltb (length (entries_of (state_as c).fifos i)) 32 ≡ b)
   put_is v p b e h = rw (fifos_is c) (e, sym (ap (λ (r : PutOn). r.kept) e ∙ kept_is i v (fifos_as c.fifos)) ∙ h)
 
-  pub put_kept : (side : Side) (v : ℕ) (p : Put) (d : Card) → put_as p ≡ put_on i v (fifos_as c.fifos) → p.kept ≡ true →
-      state_as d ≡ with_fifos (fifos_as p.fifos) (state_as c) → Effected (put_into side i (entries_of (state_as c).fifos i) v) c (record { card = d; answer = Done p.held 1 })
-  put_kept side v p d e h s =
-      let k = put_is v p true e h in
-      let r : put_as p ≡ record { fifos = pushed_on i v (state_as c).fifos; held = length (entries_of (state_as c).fifos i) + 1; kept = true } = rw k.1 at k.0 in
-      rw k.1 (record { answer = ap (λ (r : PutOn). Done r.held 1) r; state = s ∙ ap (λ (r : PutOn). with_fifos r.fifos (state_as c)) r })
+  module _ (side : Side) (v : ℕ) {p : Option Fifos} (e : put_as i c.fifos p ≡ put_on i v (fifos_as c.fifos)) (d : Card) where
+    pub put_kept : (fs : Fifos) (n : ℕ) → p ≡ Some fs → n ≡ length (entries_of (fifos_as fs) i) → state_as d ≡ with_fifos (fifos_as fs) (state_as c) →
+        Effected (put_into side i (entries_of (state_as c).fifos i) v) c (record { card = d; answer = Ok (record { v = n; x = 1 }) })
+    put_kept fs n h q s =
+        let k = put_is v (Some fs) true (rw h at e) refl in
+        let r : put_as i c.fifos (Some fs) ≡ record { fifos = pushed_on i v (state_as c).fifos; held = length (entries_of (state_as c).fifos i) + 1; kept = true } = rw k.1 at k.0 in
+        rw k.1 (record { answer = rw q (ap (λ (r : PutOn). Ok (record { v = r.held; x = 1 })) r); state = s ∙ ap (λ (r : PutOn). with_fifos r.fifos (state_as c)) r })
 
-  pub put_lost : (side : Side) (v : ℕ) (p : Put) (d : Card) (n : ℕ) (j : Interrupts) → put_as p ≡ put_on i v (fifos_as c.fifos) → p.kept ≡ false →
-      n ≡ mask (overflow side) → interrupts_as j ≡ raised_both n (interrupts_as c.interrupts) → state_as d ≡ with_interrupts (interrupts_as j) (state_as c) →
-      Effected (put_into side i (entries_of (state_as c).fifos i) v) c (record { card = d; answer = Done p.held 0 })
-  put_lost side v p d n j e h m r s =
-      let k = put_is v p false e h in
-      let l : put_as p ≡ record { fifos = (state_as c).fifos; held = 32; kept = false } = rw k.1 at k.0 in
-      rw k.1
-      (record { answer = ap (λ (r : PutOn). Done r.held 0) l; state = s ∙ raised_both_lem (state_as c) (interrupts_as j) (overflow side) n m (r ∙ ap (raised_both n) (sym (interrupts_is c))) })
+    pub put_lost : (n : ℕ) (j : Interrupts) → p ≡ None → n ≡ mask (overflow side) → interrupts_as j ≡ raised_both n (interrupts_as c.interrupts) →
+        state_as d ≡ with_interrupts (interrupts_as j) (state_as c) → Effected (put_into side i (entries_of (state_as c).fifos i) v) c (record { card = d; answer = Ok (record { v = 32; x = 0 }) })
+    put_lost n j h m r s =
+        let k = put_is v None false (rw h at e) refl in
+        rw k.1 (record { answer = refl; state = s ∙ raised_both_lem (state_as c) (interrupts_as j) (overflow side) n m (r ∙ ap (raised_both n) (sym (interrupts_is c))) })
 
-  pub taken : (t : Taken) (d : Card) → taken_as t ≡ taken_off i (fifos_as c.fifos) (entries_of (fifos_as c.fifos) i) →
-      state_as d ≡ with_fifos (fifos_as t.fifos) (state_as c) → Effected (taken_from i (entries_of (state_as c).fifos i)) c (record { card = d; answer = Done t.entry t.held })
-  taken t d e s = by (entries_of (state_as c).fifos i) (rw (fifos_is c) e)
-    where
-      by : (l : List ℕ) → taken_as t ≡ taken_off i (state_as c).fifos l → Effected (taken_from i l) c (record { card = d; answer = Done t.entry t.held })
-      by [] k = record { answer = ap (λ (r : TakenOff). Done r.entry r.held) k; state = s ∙ ap (λ (r : TakenOff). with_fifos r.fifos (state_as c)) k }
-      by (x ∷ l) k = record { answer = ap (λ (r : TakenOff). Done r.entry r.held) k; state = s ∙ ap (λ (r : TakenOff). with_fifos r.fifos (state_as c)) k }
+  module _ {p : Option Taken} (e : taken_as i c.fifos p ≡ taken_off i (fifos_as c.fifos) (entries_of (fifos_as c.fifos) i)) where
+    pub taken_some : (t : Taken) (d : Card) (n : ℕ) → p ≡ Some t → n ≡ length (entries_of (fifos_as c.fifos) i) → state_as d ≡ with_fifos (fifos_as t.fifos) (state_as c) →
+        Effected (taken_from i (entries_of (state_as c).fifos i)) c (record { card = d; answer = Ok (record { v = t.entry; x = n }) })
+    taken_some t d n h q s = by (entries_of (state_as c).fifos i) (rw (fifos_is c) (rw h at e)) (rw (fifos_is c) q)
+      where
+        by : (l : List ℕ) → taken_as i c.fifos (Some t) ≡ taken_off i (state_as c).fifos l → n ≡ length l → Effected (taken_from i l) c (record { card = d; answer = Ok (record { v = t.entry; x = n }) })
+        by [] k m = absurd (let z = ap (λ (r : TakenOff). r.held) k in omega arith)
+        by (x ∷ l) k m = record { answer = rw m (ap (λ (r : TakenOff). Ok (record { v = r.entry; x = length (x ∷ l) })) k); state = s ∙ ap (λ (r : TakenOff). with_fifos r.fifos (state_as c)) k }
+
+    pub taken_none : p ≡ None → Effected (taken_from i (entries_of (state_as c).fifos i)) c (record { card = c; answer = Ok (record { v = 4294967295; x = 0 }) })
+    taken_none h = by (entries_of (state_as c).fifos i) (rw (fifos_is c) (rw h at e))
+      where
+        by : (l : List ℕ) → taken_as i c.fifos None ≡ taken_off i (state_as c).fifos l → Effected (taken_from i l) c (record { card = c; answer = Ok (record { v = 4294967295; x = 0 }) })
+        by [] k = record { answer = refl; state = refl }
+        by (x ∷ l) k = absurd (let z = ap (λ (r : TakenOff). r.held) k in omega arith)

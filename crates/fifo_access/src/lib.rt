@@ -8,9 +8,10 @@ ghost use Rattle.model.specs.Events.{mask};
 ghost use Rattle.model.specs.Fifos.{entries_of, putter, taker};
 ghost use Rattle.model.specs.FifosAndFlags.{overflow, taken_from, put_into};
 ghost use Rattle.model.specs.Accesses as model;
+ghost use Rattle.access.specs.Bridge.{refusal_as};
 ghost use Rattle.card.specs.Bridge.{state_as, Effected, Did};
 
-use access::Access;
+use access::{Access, Refusal};
 use card::{Card, Outcome};
 use events::EventSet;
 
@@ -34,31 +35,29 @@ fn taker(fifo: u8) -> u8
 }
 
 // Kinds 5 and 6 differ in their unused fields, and in the one side that may.
-fn fifo_refusal(q: Access, unused: bool, may: u8) -> u8
-    ensures { result ≡ refusal ((3 for unused) ∷ (4 for above 3 q.s) ∷ (5 for not_by (side_of may) (side_of q.side)) ∷ []) }
+fn fifo_checks(q: Access, unused: bool, may: u8) -> Result<(), Refusal>
+    ensures { refusal_as result ≡ refusal ((3 for unused) ∷ (4 for above 3 q.s) ∷ (5 for not_by (side_of may) (side_of q.side)) ∷ []) }
 {
-    access::when(
-        access::UNUSED_FIELD,
-        unused,
-        access::when(
-            access::SELECTOR,
-            3 < q.s,
-            access::when(access::WRONG_SIDE, access::wrong_side(may, q.side), 0),
-        ),
-    )
+    Refusal::UnusedField.when(unused)?;
+    Refusal::Selector.when(3 < q.s)?;
+    Refusal::WrongSide.when(access::wrong_side(may, q.side))
 }
 
 // WHAT IS DONE
 
-// "V entry", "if empty V 4,294,967,295"; X the entries held before it.
+// "if empty V 4,294,967,295"
+const NO_ENTRY: u32 = 4294967295;
+
+// "V entry"; X the entries held before it.
 fn take_entry(card: Card, i: usize) -> Outcome
     requires { i < 4 }
     ensures { Effected (taken_from i (entries_of (state_as card).fifos i)) card result }
 {
-    let fifos = card.fifos;
-    let taken = fifos.take(i);
-    let rest = taken.fifos;
-    card.with_fifos(rest).done(taken.entry, taken.held)
+    let held = card.fifos.held(i);
+    match card.fifos.take(i) {
+        Some(taken) => card.with_fifos(taken.fifos).done(taken.entry, held),
+        None => card.done(NO_ENTRY, 0),
+    }
 }
 
 // The event of a put that a side loses.
@@ -77,15 +76,13 @@ fn put_entry(card: Card, side: u8, i: usize, entry: u32) -> Outcome
     requires { i < 4 }
     ensures { Effected (put_into (side_of side) i (entries_of (state_as card).fifos i) entry) card result }
 {
-    let fifos = card.fifos;
-    let put = fifos.put(i, entry);
-    if put.kept {
-        let longer = put.fifos;
-        return card.with_fifos(longer).done(put.held, 1);
+    match card.fifos.put(i, entry) {
+        Some(longer) => card.with_fifos(longer).done(longer.held(i), 1),
+        None => {
+            let interrupts = card.interrupts.raise_both(lost_event(side));
+            card.with_interrupts(interrupts).done(fifos::ROOM, 0)
+        }
     }
-    let interrupts = card.interrupts;
-    card.with_interrupts(interrupts.raise_both(lost_event(side)))
-        .done(put.held, 0)
 }
 
 // KINDS
@@ -94,9 +91,8 @@ fn put_entry(card: Card, side: u8, i: usize, entry: u32) -> Outcome
 pub fn take(card: Card, q: Access) -> Outcome
     ensures { (m w : List ℕ) → Did model.take card q m w result m w }
 {
-    let n = fifo_refusal(q, access::nonzero(0, q.a, q.b, q.c), taker(q.s));
-    if n != 0 {
-        return card.refused(n);
+    if let Err(refusal) = fifo_checks(q, access::nonzero(0, q.a, q.b, q.c), taker(q.s)) {
+        return card.refused(refusal);
     }
     take_entry(card, q.s as usize)
 }
@@ -105,9 +101,8 @@ pub fn take(card: Card, q: Access) -> Outcome
 pub fn put(card: Card, q: Access) -> Outcome
     ensures { (m w : List ℕ) → Did model.put card q m w result m w }
 {
-    let n = fifo_refusal(q, access::nonzero(0, q.a, 0, q.c), putter(q.s));
-    if n != 0 {
-        return card.refused(n);
+    if let Err(refusal) = fifo_checks(q, access::nonzero(0, q.a, 0, q.c), putter(q.s)) {
+        return card.refused(refusal);
     }
     put_entry(card, q.side, q.s as usize, q.b)
 }

@@ -1,15 +1,21 @@
 -- Laws of the entries held: their number, what a store at the end and a shift make of them; and one of the four FIFOs read and replaced.
-use Rattle.std.specs.Prelude.{◌≡◌, refl, true, false, List, [], ◌∷◌, ◌++◌, map, ℕ, zero, suc, ◌+◌, ◌-◌, ◌<◌, ◌≤◌, length, get_or, set, take, drop, replicate, ltb}
-use Rattle.std.proofs.Common.{sym, ◌∙◌, append_assoc, append-nil, arith, add_comm, add-one, length-set, length-drop, length-append, drop_of_length-le, length-take-le, take-suc, take-suc-set, take_all, get_or-drop, lt-ltb, le-ltb}
-use Rattle.std.proofs.lemmas.List.{length-replicate, replicate-append-replicate, take-append-le, set_split}
+use Rattle.std.specs.Prelude.{◌≡◌, refl, List, [], ◌∷◌, ◌++◌, map, ℕ, zero, suc, ◌+◌, ◌-◌, ◌<◌, ◌≤◌, length, get_or, set, take, drop, replicate, ltb, leb, ◌&&◌, Some, None}
+use Rattle.std.proofs.Common.{sym, ap, ◌∙◌, append_assoc, append-nil, arith, add-one, length-set, get_or-set_same, length-drop, length-append, drop_of_length-le, length-take-le, take-suc-set, take_all, lt-ltb, le-ltb}
+use Rattle.std.proofs.lemmas.List.{length-map, length-replicate, take-append-le, set_split}
+use Rattle.std.proofs.lemmas.List.Edits.{length-paste, take-paste}
+use Rattle.std.specs.List.{copy_within, list_all}
+use lib.Seq.{paste}
+use borrow.Rule.Slice.PartMut.{put_mid}
 use Rattle.std.proofs.Math.ListN.{get_or-map}
 use Rattle.model.specs.Fifos as model
-use Rattle.model.specs.Fifos.{entries_of, popped_from}
+use Rattle.model.specs.Choice.{every}
+use Rattle.model.specs.Fifos.{entries_of, popped_from, fifo_sound, fifos_sound}
 use Rattle.model.proofs.TestLaws.{if_case}
 use Rattle.model.proofs.FourLaws.{map_set}
 use Rattle.model.specs.Why.{places}
 use Rattle.fifos.specs.declared.Fifo.{Fifo}
-use Rattle.fifos.specs.Bridge.{entries_as, PutOn, put_on, taken_off}
+use Rattle.fifos.specs.declared.Fifos.{Fifos}
+use Rattle.fifos.specs.Bridge.{entries_as, fifos_as, PutOn, put_on, put_as, taken_off, taken_as}
 
 pub length_entries : (f : Fifo) → length (entries_as f) ≡ f.count
 unfolding entries_as
@@ -36,44 +42,27 @@ oldest_first [] n len h = absurd (omega arith)
 oldest_first (x ∷ es) zero len h = absurd (omega arith)
 oldest_first (x ∷ es) (suc n) len h = refl
 
--- a turn of the loop that moves entries down, and its end
-pub shift_turn : (es moved : List ℕ) (i : ℕ) → length moved ≡ 32 → length es ≡ 32 → i < 31 → take i moved ≡ take i (drop 1 es) →
-    take (i + 1) (set moved i (get_or es (i + 1) 0)) ≡ take (i + 1) (drop 1 es)
-shift_turn es moved i h k l p =
-    rw (add-one i, take-suc-set moved i _ (omega arith), take-suc (drop 1 es) i 0 (simp length-drop (omega arith)), get_or-drop 1 es i 0, add_comm 1 i, p, add-one)
-
-pub shift_end : (es moved : List ℕ) (i : ℕ) → length moved ≡ 32 → length es ≡ 32 → i ≤ 31 → 31 ≤ i → take i moved ≡ take i (drop 1 es) →
-    set moved 31 0 ≡ drop 1 es ++ (0 ∷ [])
-shift_end es moved i h k l g p =
-    let q : i ≡ 31 = omega arith in
-    let r : take 31 moved ≡ drop 1 es = rw q at p ∙ take_all 31 (drop 1 es) (simp length-drop (omega arith)) in
-    set_split moved 31 0 (omega arith) ∙ rw (r, drop_of_length-le moved {i = 32} (omega arith))
+-- the entries moved down by one place, and 0 in the last
+pub moved_down : (es : List ℕ) → length es ≡ 32 → set (copy_within es 1 (length es) 0) 31 0 ≡ drop 1 es ++ (0 ∷ [])
+moved_down es len =
+    let m : List ℕ = paste es 0 (drop 1 es) 31 in
+    let k : length m ≡ 32 = length-paste es 0 (drop 1 es) 31 (omega arith) (simp length-drop (omega arith)) ∙ len in
+    let first : take 31 m ≡ drop 1 es = take-paste es 0 (drop 1 es) 31 (omega arith) (simp length-drop (omega arith)) ∙ take_all 31 (drop 1 es) (simp length-drop (omega arith)) in
+    rw len (set_split m 31 0 (omega arith) ∙ rw (first, drop_of_length-le m {i = 32} (omega arith)))
 
 -- those held are the first of the array
 pub first_entries : (f : Fifo) → f.count ≤ length f.entries → entries_as f ≡ take f.count f.entries
 unfolding entries_as
 first_entries f h = take-append-le f.count f.entries (replicate f.count 0) h
 
--- the places that are not used, zero after zero: `count` entries are, and the places up to `i` are done
-pub record Used (entries : List ℕ) (count : ℕ) (kept : List ℕ) (i : ℕ) : Type 0 where
-  pub behind : count ≤ i
-  pub upto : take i kept ≡ take count entries ++ replicate (i - count) 0
-
-pub none_used : (entries : List ℕ) (count : ℕ) → Used entries count entries count
-none_used entries count = let none : count - count ≡ 0 = omega arith in record { behind = omega arith; upto = rw none (sym (append-nil _)) }
-
-pub zero_more : {entries kept : List ℕ} {count i : ℕ} → i < length kept → Used entries count kept i → Used entries count (set kept i 0) (i + 1)
-zero_more {entries} {kept} {count} {i} h u =
-    let more : i + 1 - count ≡ i - count + 1 = omega (arith, u.behind) in
-    record {
-      behind = omega (arith, u.behind);
-      upto = rw (add-one i, take-suc-set kept i 0 h, u.upto, ← add-one i, more, append_assoc, replicate-append-replicate {A = ℕ} (i - count) 1 0);
-    }
-
-pub all_used : {entries kept : List ℕ} {count i : ℕ} → length entries ≡ 32 → length kept ≡ 32 → i ≡ 32 → Used entries count kept i → kept ≡ places (take count entries)
-all_used {entries} {kept} {count} {i} n m e u =
-    let held = length-take-le count entries (omega (arith, u.behind)) in
-    sym (take_all i kept (omega arith)) ∙ rw (u.upto, e, held)
+-- with zeros in the places that are not used
+pub zeros_behind : (es : List ℕ) (n : ℕ) → length es ≡ 32 → n ≤ 32 →
+    put_mid n (32 - n) es (replicate (length (take (32 - n) (drop n es))) 0) ≡ places (take n es)
+zeros_behind es n len h =
+    let none : drop (32 - n) (drop n es) ≡ [] = drop_of_length-le (drop n es) (simp length-drop (omega arith)) in
+    let others : length (take (32 - n) (drop n es)) ≡ 32 - n = length-take-le (32 - n) (drop n es) (simp length-drop (omega arith)) in
+    let held = length-take-le n es (omega arith) in
+    rw (none, others, append-nil, held)
 
 -- ONE OF THE FOUR
 
@@ -86,29 +75,44 @@ module _ (each : List Fifo) (i : ℕ) where
   unfolding entries_as
   entries_at = get_or-map entries_as each i no_fifo
 
-  pub put_kept : (v : ℕ) (r : Fifo) → (get_or each i no_fifo).count < 32 → entries_as r ≡ entries_as (get_or each i no_fifo) ++ (v ∷ []) →
-      record { fifos = map entries_as (set each i r); held = (get_or each i no_fifo).count + 1; kept = true } ≡ put_on i v (map entries_as each)
-  put_kept v r h e = rw (entries_at, length_entries (get_or each i no_fifo), lt-ltb _ 32 h, map_set entries_as each i r, e)
+-- all counted are few, as a test of each and as one of the four lists
+few : (l : List Fifo) → list_all (λ (f : Fifo). leb f.count 32) l ≡ every fifo_sound (map entries_as l)
+few [] = refl
+few (f ∷ l) = rw (length_entries f) (ap (leb f.count 32 &&◌) (few l))
 
-  pub put_lost : (v : ℕ) → 32 ≤ (get_or each i no_fifo).count → record { fifos = map entries_as each; held = 32; kept = false } ≡ put_on i v (map entries_as each)
-  put_lost v h = rw (entries_at, length_entries (get_or each i no_fifo), le-ltb _ 32 h)
+pub all_few : (each : List Fifo) → length each ≡ 4 → list_all (λ (f : Fifo). leb f.count 32) each ≡ fifos_sound (map entries_as each)
+all_few each len = few each ∙ rw (length-map, len)
 
-  pub taken_none : (get_or each i no_fifo).count ≡ 0 →
-      record { fifos = map entries_as each; entry = 4294967295; held = 0 } ≡ taken_off i (map entries_as each) (entries_of (map entries_as each) i)
-  taken_none h = rw (entries_at) (by (entries_as (get_or each i no_fifo)) (length_entries (get_or each i no_fifo) ∙ h))
+module _ (before : Fifos) (i : ℕ) where
+  pub put_kept : (v : ℕ) (r : Fifo) → i < length before.each → (get_or before.each i no_fifo).count < 32 → entries_as r ≡ entries_as (get_or before.each i no_fifo) ++ (v ∷ []) →
+      put_as i before (Some (record { each = set before.each i r })) ≡ put_on i v (fifos_as before)
+  put_kept v r k h e =
+      let fs : model.Fifos = fifos_as before in
+      let room : i < length fs = simp length-map k in
+      let more : length (entries_as (get_or before.each i no_fifo) ++ (v ∷ [])) ≡ (get_or before.each i no_fifo).count + 1 = rw (length-append, length_entries) in
+      rw (map_set entries_as before.each i r, e, get_or-set_same, more, entries_at before.each i, length_entries (get_or before.each i no_fifo), lt-ltb _ 32 h)
+
+  pub put_lost : (v : ℕ) → 32 ≤ (get_or before.each i no_fifo).count → put_as i before None ≡ put_on i v (fifos_as before)
+  put_lost v h = rw (entries_at before.each i, length_entries (get_or before.each i no_fifo), le-ltb _ 32 h)
+
+  pub taken_none : (get_or before.each i no_fifo).count ≡ 0 → taken_as i before None ≡ taken_off i (fifos_as before) (entries_of (fifos_as before) i)
+  taken_none h = rw (entries_at before.each i) (by (entries_as (get_or before.each i no_fifo)) (length_entries (get_or before.each i no_fifo) ∙ h))
     where
-      by : (l : List ℕ) → length l ≡ 0 → record { fifos = map entries_as each; entry = 4294967295; held = 0 } ≡ taken_off i (map entries_as each) l
+      by : (l : List ℕ) → length l ≡ 0 → taken_as i before None ≡ taken_off i (fifos_as before) l
       by [] k = refl
       by (x ∷ l) k = absurd (omega arith)
 
-  pub taken_some : (oldest : ℕ) (r : Fifo) → entries_as (get_or each i no_fifo) ≡ oldest ∷ drop 1 (entries_as (get_or each i no_fifo)) →
-      entries_as r ≡ drop 1 (entries_as (get_or each i no_fifo)) →
-      record { fifos = map entries_as (set each i r); entry = oldest; held = (get_or each i no_fifo).count } ≡ taken_off i (map entries_as each) (entries_of (map entries_as each) i)
-  taken_some oldest r e k =
-      rw (map_set entries_as each i r, k, ← length_entries (get_or each i no_fifo), ← entries_at) (by (entries_of (map entries_as each) i) (entries_at ∙ e))
+  pub taken_some : (oldest : ℕ) (r : Fifo) → i < length before.each → entries_as (get_or before.each i no_fifo) ≡ oldest ∷ drop 1 (entries_as (get_or before.each i no_fifo)) →
+      entries_as r ≡ drop 1 (entries_as (get_or before.each i no_fifo)) →
+      taken_as i before (Some (record { fifos = record { each = set before.each i r }; entry = oldest })) ≡ taken_off i (fifos_as before) (entries_of (fifos_as before) i)
+  taken_some oldest r n e k =
+      let fs : model.Fifos = fifos_as before in
+      let here : List ℕ = entries_as (get_or before.each i no_fifo) in
+      let left : get_or (set fs i (drop 1 here)) i [] ≡ drop 1 here = get_or-set_same fs i (drop 1 here) [] (simp length-map n) in
+      rw (map_set entries_as before.each i r, k, left, ← entries_at before.each i) (by (entries_of fs i) (entries_at before.each i ∙ e ∙ rw (entries_at before.each i)))
     where
-      by : (l : List ℕ) → l ≡ oldest ∷ drop 1 (entries_as (get_or each i no_fifo)) →
-          record { fifos = popped_from i (map entries_as each); entry = oldest; held = length l } ≡ taken_off i (map entries_as each) l
+      by : (l : List ℕ) → l ≡ oldest ∷ drop 1 (entries_of (fifos_as before) i) →
+          record { fifos = popped_from i (fifos_as before); entry = oldest; held = length (oldest ∷ drop 1 (entries_of (fifos_as before) i)) } ≡ taken_off i (fifos_as before) l
       by l h = rw h
 
 -- WHAT A CALLER LEARNS

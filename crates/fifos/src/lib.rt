@@ -1,12 +1,13 @@
 // Document 01, "FIFOs and flags": the four FIFOs by value.
 #![tactic(auto)]
 
-ghost use Rattle.std.specs.Prelude.{◌≡◌, [], ◌∷◌, ◌++◌, map, ◌<◌, ◌≤◌, length, take, drop, eqb};
+ghost use Rattle.std.specs.Prelude.{◌≡◌, [], ◌∷◌, ◌++◌, map, ◌<◌, ◌≤◌, length, drop, eqb};
 ghost use Rattle.model.specs.Fifos.{fresh_fifos, fifos_sound, entries_of};
 ghost use Rattle.model.specs.Why.{places};
 ghost use Rattle.fifos.specs.Bridge.{entries_as, fifos_as, put_on, put_as, taken_off, taken_as};
 
-// "Each FIFO holds 32 numbers of 32 bits": the first `count` entries, oldest first.
+// "Each FIFO holds 32 numbers of 32 bits": the first `count` entries, oldest first. An array with its count, as the record is copied by value and there is
+// no heap; a record handed in may have a count above 32, which is not sound.
 #[derive(Clone, Copy)]
 pub struct Fifo {
     pub entries: [u32; 32],
@@ -18,56 +19,16 @@ pub struct Fifos {
     pub each: [Fifo; 4],
 }
 
-// What a put gives: the FIFOs, how many entries the one holds after it, 32 where it was full, and whether the entry was kept.
-#[derive(Clone, Copy)]
-pub struct Put {
-    pub fifos: Fifos,
-    pub held: u32,
-    pub kept: bool,
-}
-
-// What a take gives: the FIFOs, the oldest entry if there was one, and how many the one held before it.
+// What a take gives where there is an entry: the FIFOs after it, and the oldest entry.
 #[derive(Clone, Copy)]
 pub struct Taken {
     pub fifos: Fifos,
     pub entry: u32,
-    pub held: u32,
 }
 
-const ROOM: u32 = 32;
-
-// what a take from an empty FIFO gives for its entry
-pub const NO_ENTRY: u32 = 4294967295;
+pub const ROOM: u32 = 32;
 
 // ONE FIFO
-
-// The entries moved down by one place, and 0 in the last.
-fn shifted(entries: [u32; 32]) -> [u32; 32]
-    ensures { result ≡ drop 1 entries ++ (0 ∷ []) }
-{
-    let mut moved = entries;
-    let mut i: usize = 0;
-    while i < 31 {
-        moved[i] = entries[i + 1];
-        i += 1;
-    }
-    moved[31] = 0;
-    moved
-}
-
-// The first `count` entries, and 0 in the other places.
-fn used(entries: [u32; 32], count: u32) -> [u32; 32]
-    requires { count ≤ 32 }
-    ensures { result ≡ places (take count entries) }
-{
-    let mut kept = entries;
-    let mut i = count as usize;
-    while i < 32 {
-        kept[i] = 0;
-        i += 1;
-    }
-    kept
-}
 
 impl Fifo {
     pub fn empty() -> Fifo
@@ -79,15 +40,13 @@ impl Fifo {
         }
     }
 
-    pub fn with(self, entry: u32) -> Fifo
+    pub fn with(mut self, entry: u32) -> Fifo
         requires { self.count < 32 }
         ensures { entries_as result ≡ entries_as self ++ (entry ∷ []) }
     {
-        let at = self.count as usize;
-        let mut longer = self;
-        longer.entries[at] = entry;
-        longer.count = self.count + 1;
-        longer
+        self.entries[self.count as usize] = entry;
+        self.count += 1;
+        self
     }
 
     fn oldest(self) -> u32
@@ -97,15 +56,15 @@ impl Fifo {
         self.entries[0]
     }
 
-    pub fn rest(self) -> Fifo
+    // The entries moved down by one place, and 0 in the last.
+    pub fn rest(mut self) -> Fifo
         requires { 0 < self.count }
         ensures { entries_as result ≡ drop 1 (entries_as self) }
     {
-        let entries = self.entries;
-        Fifo {
-            entries: shifted(entries),
-            count: self.count - 1,
-        }
+        self.entries.copy_within(1.., 0);
+        self.entries[31] = 0;
+        self.count -= 1;
+        self
     }
 
     // Those held, oldest first; places that are not used are 0.
@@ -113,42 +72,35 @@ impl Fifo {
         requires { self.count ≤ 32 }
         ensures { result ≡ places (entries_as self) }
     {
-        let entries = self.entries;
-        used(entries, self.count)
+        let mut entries = self.entries;
+        entries[self.count as usize..].fill(0);
+        entries
     }
 }
 
 // THE FOUR
 
-// "Each FIFO holds at most 32 entries." There are four, since the array has so many.
-fn all_sound(each: [Fifo; 4]) -> bool
-    ensures { result ≡ fifos_sound (map entries_as each) }
-{
-    (each[0].count <= ROOM)
-        & ((each[1].count <= ROOM) & ((each[2].count <= ROOM) & (each[3].count <= ROOM)))
-}
-
 impl Fifos {
     pub fn fresh() -> Fifos
         ensures { fifos_as result ≡ fresh_fifos }
     {
-        let empty = Fifo::empty();
-        Fifos { each: [empty; 4] }
+        Fifos {
+            each: [Fifo::empty(); 4],
+        }
     }
 
+    // "Each FIFO holds at most 32 entries." There are four, since the array has so many.
     pub fn sound(self) -> bool
         ensures { result ≡ fifos_sound (fifos_as self) }
     {
-        let each = self.each;
-        all_sound(each)
+        self.each.iter().all(|fifo| fifo.count <= ROOM)
     }
 
     pub fn is_empty(self, i: usize) -> bool
         requires { i < 4 }
         ensures { result ≡ eqb (length (entries_of (fifos_as self) i)) 0 }
     {
-        let each = self.each;
-        each[i].count == 0
+        self.held(i) == 0
     }
 
     // How many entries one holds.
@@ -156,8 +108,7 @@ impl Fifos {
         requires { i < 4 }
         ensures { result ≡ length (entries_of (fifos_as self) i) }
     {
-        let each = self.each;
-        each[i].count
+        self.each[i].count
     }
 
     // The entries that one holds.
@@ -166,55 +117,40 @@ impl Fifos {
         requires i_len_bound { length (entries_of (fifos_as self) i) ≤ 32 }
         ensures { result ≡ places (entries_of (fifos_as self) i) }
     {
-        let each = self.each;
-        let fifo = each[i];
-        fifo.places()
+        self.each[i].places()
     }
 
-    // "A put on a full one keeps it as it is" and "loses the entry". The array is a local: indexed inside the record it would keep the whole
-    // record in memory.
-    pub fn put(self, i: usize, entry: u32) -> Put
+    // "A put on a full one keeps it as it is" and "loses the entry": then it gives none. The array is a local: indexed inside the record it would
+    // keep the whole record in memory.
+    pub fn put(self, i: usize, entry: u32) -> Option<Fifos>
         requires { i < 4 }
-        ensures { put_as result ≡ put_on i entry (fifos_as self) }
+        ensures { put_as i self result ≡ put_on i entry (fifos_as self) }
     {
         let mut each = self.each;
         let fifo = each[i];
         if fifo.count < ROOM {
             each[i] = fifo.with(entry);
-            return Put {
-                fifos: Fifos { each: each },
-                held: fifo.count + 1,
-                kept: true,
-            };
-        }
-        Put {
-            fifos: self,
-            held: ROOM,
-            kept: false,
+            Some(Fifos { each })
+        } else {
+            None
         }
     }
 
-    // "Entries come out once each, in order."
-    pub fn take(self, i: usize) -> Taken
+    // "Entries come out once each, in order." An empty one gives none.
+    pub fn take(self, i: usize) -> Option<Taken>
         requires { i < 4 }
-        ensures { taken_as result ≡ taken_off i (fifos_as self) (entries_of (fifos_as self) i) }
+        ensures { taken_as i self result ≡ taken_off i (fifos_as self) (entries_of (fifos_as self) i) }
     {
         let mut each = self.each;
         let fifo = each[i];
         if fifo.count == 0 {
-            return Taken {
-                fifos: self,
-                entry: NO_ENTRY,
-                held: 0,
-            };
+            return None;
         }
-        let rest = fifo.rest();
-        each[i] = rest;
+        each[i] = fifo.rest();
         let entry = fifo.oldest();
-        Taken {
-            fifos: Fifos { each: each },
-            entry: entry,
-            held: fifo.count,
-        }
+        Some(Taken {
+            fifos: Fifos { each },
+            entry,
+        })
     }
 }

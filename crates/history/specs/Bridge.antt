@@ -1,7 +1,9 @@
 -- What contracts of history cite: the code's answer as the model's, what a record makes of a case and of the puts, and what a history knows.
-use Rattle.std.specs.Prelude.{◌≡◌, ◌⊎◌, Bool, true, false, List, [], ◌∷◌, ◌++◌, map, ℕ, zero, suc, length, get_or, drop, eqb, ltb, if◌then◌else◌}
-use Rattle.model.specs.Why.{Holding, Reason, cleared_by, set_by, Answer, refused, because, Told, settled_by, Moved, turned, held_by, is_up}
+use Rattle.std.specs.Prelude.{◌≡◌, ◌⊎◌, Bool, true, false, Result, Ok, Err, List, [], ◌∷◌, ◌++◌, map, ℕ, zero, suc, length, get_or, drop, eqb, ltb, if◌then◌else◌}
+use Rattle.model.specs.Why.{Holding, Reason, cleared_by, set_by, Answer, refused, because, Told, told, settled_by, Moved, turned, held_by, is_up}
 use Rattle.model.specs.Why as model
+use Rattle.access.specs.declared.Refusal.{Refusal}
+use Rattle.access.specs.Bridge.{number_of}
 use Rattle.fifos.specs.Bridge.{entries_as}
 use Rattle.history.specs.declared.Case.{Case}
 use Rattle.history.specs.declared.Case.TheVariants as code
@@ -14,17 +16,17 @@ holdings_from zero es rs = []
 holdings_from (suc k) es rs = record { entry = get_or es 0 0; put_by = get_or rs 0 0 } ∷ holdings_from k (drop 1 es) (drop 1 rs)
 
 abbrev pub answer_of : Case → (entries records : List ℕ) → Answer
-answer_of (code.Refused n) es rs = refused n
 answer_of code.Never es rs = because model.never
 answer_of (code.Cleared n) es rs = because (cleared_by n)
 answer_of (code.Set n) es rs = because (set_by n)
 answer_of (code.Held n) es rs = because (model.held (holdings_from n es rs))
 
-abbrev pub told_as : Explanation → Told
-told_as e = record { answer = answer_of e.case e.entries e.records; entries = e.entries; records = e.records }
+-- "Each answers zeros", where refused.
+abbrev pub told_as : Result Explanation Refusal → Told
+told_as (Ok e) = record { answer = answer_of e.case e.entries e.records; entries = e.entries; records = e.records }
+told_as (Err r) = told (refused (number_of r))
 
 abbrev pub is_set : Case → Bool
-is_set (code.Refused n) = false
 is_set code.Never = false
 is_set (code.Cleared n) = false
 is_set (code.Set n) = true

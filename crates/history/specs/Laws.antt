@@ -1,5 +1,5 @@
 -- A history by a record more, case by case of what it knew; and the answer read back from its places.
-use Rattle.std.specs.Prelude.{◌≡◌, refl, ◌⊎◌, Bool, true, false, List, [], ◌∷◌, ◌++◌, map, ℕ, length}
+use Rattle.std.specs.Prelude.{◌≡◌, refl, ◌⊎◌, Bool, true, false, Ok, List, [], ◌∷◌, ◌++◌, map, ℕ, length}
 use Rattle.std.proofs.Common.{sym, ap, ◌∙◌, inl, inr, arith, length-append, lt-ltb, le-ltb}
 use Rattle.std.proofs.lemmas.List.{length-map}
 use Rattle.std.proofs.Math.Dec.{eqb-suc-zero}
@@ -89,22 +89,22 @@ holdings_back (h ∷ hs) es rs = ap (h ∷◌) (holdings_back hs es rs)
 
 -- where none is held, the case is the answer; else the entries are
 pub told_case : (h : History) (r : Reason) (es rs : List ℕ) → Knows h r → h.puts.count ≡ 0 → es ≡ places (map (λ h. h.entry) (held_by r)) → rs ≡ places (entries_as h.puts) →
-    told_as (record { case = h.case; entries = es; records = rs }) ≡ told (because r)
+    told_as (Ok (record { case = h.case; entries = es; records = rs })) ≡ told (because r)
 told_case h r es rs k z e f = by h.case r k.says (sym (ap length k.puts) ∙ length_entries h.puts ∙ z) e (f ∙ ap places k.puts)
   where
     by : (c : Case) (r : Reason) → Says c r → length (putters (held_by r)) ≡ 0 → es ≡ places (map (λ h. h.entry) (held_by r)) → rs ≡ places (putters (held_by r)) →
-        told_as (record { case = c; entries = es; records = rs }) ≡ told (because r)
+        told_as (Ok (record { case = c; entries = es; records = rs })) ≡ told (because r)
     by c r never z e f = rw (e, f)
     by c r cleared z e f = rw (e, f)
     by c r set z e f = rw (e, f)
     by c r holds z e f = absurd (omega arith)
 
 pub told_held : (h : History) (r : Reason) (es rs : List ℕ) → Knows h r → (h.puts.count ≡ 0 → ⊥) → es ≡ places (map (λ h. h.entry) (held_by r)) → rs ≡ places (entries_as h.puts) →
-    told_as (record { case = code.Held h.puts.count; entries = es; records = rs }) ≡ told (because r)
+    told_as (Ok (record { case = code.Held h.puts.count; entries = es; records = rs })) ≡ told (because r)
 told_held h r es rs k z e f = by h.case r k.says h.puts.count z (sym (length_entries h.puts) ∙ ap length k.puts) e (f ∙ ap places k.puts)
   where
     by : (c : Case) (r : Reason) → Says c r → (n : ℕ) → (n ≡ 0 → ⊥) → n ≡ length (putters (held_by r)) → es ≡ places (map (λ h. h.entry) (held_by r)) → rs ≡ places (putters (held_by r)) →
-        told_as (record { case = code.Held n; entries = es; records = rs }) ≡ told (because r)
+        told_as (Ok (record { case = code.Held n; entries = es; records = rs })) ≡ told (because r)
     by c r never n z l e f = absurd (z l)
     by c r cleared n z l e f = absurd (z l)
     by c r set n z l e f = absurd (z l)

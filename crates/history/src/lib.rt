@@ -1,41 +1,29 @@
 // Document 02, L7: what is known of an event position along a trace, record by record, and the answer that it gives.
 #![tactic(auto)]
 
-ghost use Rattle.std.specs.Prelude.{◌≡◌, List, map, ℕ, ◌≤◌};
-ghost use Rattle.model.specs.Why.{Reason, never, refused, because, places, told, held_by};
+ghost use Rattle.std.specs.Prelude.{◌≡◌, map, Ok, ◌≤◌};
+ghost use Rattle.model.specs.Why.{Reason, never, because, places, told, held_by};
 ghost use Rattle.fifos.specs.Bridge.{entries_as};
 ghost use Rattle.history.specs.Bridge.{told_as, is_set, turned_case, puts_after, Knows, Next};
 
 use fifos::Fifo;
 
-// The case by its name, never by a number that could be 0: a refusal with its number; never raised; cleared or set, with the record; entries held, with
-// their count.
+// The case by its name, never by a number that could be 0: never raised; cleared or set, with the record; entries held, with their count.
 #[derive(Clone, Copy)]
 pub enum Case {
-    Refused(u8),
     Never,
     Cleared(u32),
     Set(u32),
     Held(u32),
 }
 
-// The answer: the case, and beside it the entries held, oldest first, with the records that put them; 0 where unused.
+// The answer: the case, and beside it the entries held, oldest first, with the records that put them; 0 where unused. They stay two arrays: `told_as`,
+// which the promise of `why::why` cites, speaks of each by itself, with the zeros that are unused.
 #[derive(Clone, Copy)]
 pub struct Explanation {
     pub case: Case,
     pub entries: [u32; 32],
     pub records: [u32; 32],
-}
-
-// "Each answers zeros."
-pub fn refused(number: u8) -> Explanation
-    ensures { told_as result ≡ told (refused number) }
-{
-    Explanation {
-        case: Case::Refused(number),
-        entries: [0; 32],
-        records: [0; 32],
-    }
 }
 
 // What is known of a position: whether its bit is set, and by which record it came to be so or not; and the records that put the entries held.
@@ -48,23 +36,17 @@ pub struct History {
 fn is_set(case: Case) -> bool
     ensures { result ≡ is_set case }
 {
-    match case {
-        Case::Set(_) => true,
-        Case::Never => false,
-        Case::Cleared(_) => false,
-        Case::Held(_) => false,
-        Case::Refused(_) => false,
-    }
+    matches!(case, Case::Set(_))
 }
 
 // A bit by its edges: "the earliest record that raised it", and "a write or reset counts as a clear only if the bit was set".
 fn turned(case: Case, n: u32, up: bool) -> Case
     ensures { result ≡ turned_case case n up }
 {
-    if is_set(case) {
-        if up { case } else { Case::Cleared(n) }
-    } else {
-        if up { Case::Set(n) } else { case }
+    match (is_set(case), up) {
+        (true, false) => Case::Cleared(n),
+        (false, true) => Case::Set(n),
+        (true, true) | (false, false) => case,
     }
 }
 
@@ -101,34 +83,29 @@ impl History {
         requires { held ≤ 32 }
         ensures { (r r' : Reason) → Knows self r → Next n up held r r' → Knows result r' }
     {
-        let case = self.case;
-        let puts = self.puts;
         let record = n as u32;
         History {
-            case: turned(case, record, up),
-            puts: moved(puts, record, held),
+            case: turned(self.case, record, up),
+            puts: moved(self.puts, record, held),
         }
     }
 
     // The answer, where its FIFO holds these entries.
     pub fn told(self, entries: [u32; 32]) -> Explanation
         requires { self.puts.count ≤ 32 }
-        ensures { (r : Reason) → Knows self r → entries ≡ places (map (λ h. h.entry) (held_by r)) → told_as result ≡ told (because r) }
+        ensures { (r : Reason) → Knows self r → entries ≡ places (map (λ h. h.entry) (held_by r)) → told_as (Ok result) ≡ told (because r) }
     {
-        let case = self.case;
-        let puts = self.puts;
-        let records = puts.places();
-        if puts.count == 0 {
-            return Explanation {
-                case: case,
-                entries: entries,
-                records: records,
-            };
-        }
+        let records = self.puts.places();
+        let held = self.puts.count;
+        let case = if held == 0 {
+            self.case
+        } else {
+            Case::Held(held)
+        };
         Explanation {
-            case: Case::Held(puts.count),
-            entries: entries,
-            records: records,
+            case,
+            entries,
+            records,
         }
     }
 }

@@ -9,9 +9,10 @@ ghost use Rattle.model.specs.State.{sound};
 ghost use Rattle.model.specs.Changes.{raised, done};
 ghost use Rattle.model.specs.InterruptRegisters.{register_written, live_of, register_read, line_active};
 ghost use Rattle.model.specs.Accesses as model;
+ghost use Rattle.access.specs.Bridge.{refusal_as};
 ghost use Rattle.card.specs.Bridge.{state_as, Effected, Did};
 
-use access::Access;
+use access::{Access, Refusal};
 use card::{Card, Outcome};
 use events::EventSet;
 
@@ -19,9 +20,8 @@ use events::EventSet;
 fn live(card: Card) -> EventSet
     ensures { result.0 ≡ live_of (state_as card).fifos }
 {
-    let fifos = card.fifos;
-    let inbound = events::INBOUND_POST.only_if(!fifos.is_empty(1));
-    let outbound = events::OUTBOUND_POST.only_if(!fifos.is_empty(3));
+    let inbound = events::INBOUND_POST.only_if(!card.fifos.is_empty(1));
+    let outbound = events::OUTBOUND_POST.only_if(!card.fifos.is_empty(3));
     inbound.insert(outbound)
 }
 
@@ -30,53 +30,38 @@ fn read_register(card: Card, side: u8) -> Outcome
     requires { sound (state_as card) ≡ true }
     ensures { Effected (done (register_read (side_of side) (state_as card)) 0 []) card result }
 {
-    let interrupts = card.interrupts;
-    let register = interrupts.register(side);
-    let value = register.value(live(card));
-    card.done(value, 0)
+    let register = card.interrupts.register(side);
+    card.done(register.value(live(card)), 0)
 }
 
 fn write_register(card: Card, side: u8, value: u32) -> Outcome
     ensures { Effected (register_written (side_of side) value) card result }
 {
-    let interrupts = card.interrupts;
-    card.with_interrupts(interrupts.write(side, value))
-        .done(0, 0)
+    let interrupts = card.interrupts.write(side, value);
+    card.with_interrupts(interrupts).done(0, 0)
 }
 
 // "V 1 active, else 0."
 fn line_level(card: Card, side: u8) -> Outcome
     ensures { Effected (done (if line_active (side_of side) (state_as card) then 1 else 0) 0 []) card result }
 {
-    let interrupts = card.interrupts;
-    let register = interrupts.register(side);
-    if register.line(live(card)) {
-        return card.done(1, 0);
-    }
-    card.done(0, 0)
+    let register = card.interrupts.register(side);
+    card.done(register.line(live(card)) as u32, 0)
 }
 
 // "Raises host event 4."
 fn raise_external(card: Card) -> Outcome
     ensures { Effected (done 0 0 (raised host external ∷ [])) card result }
 {
-    let interrupts = card.interrupts;
-    card.with_interrupts(interrupts.raise(access::HOST, events::EXTERNAL))
-        .done(0, 0)
+    let interrupts = card.interrupts.raise(access::HOST, events::EXTERNAL);
+    card.with_interrupts(interrupts).done(0, 0)
 }
 
-fn pin_refusal(q: Access) -> u8
-    ensures { result ≡ refusal ((3 for nonzero (q.s ∷ q.a ∷ q.b ∷ q.c ∷ [])) ∷ (5 for not_by local (side_of q.side)) ∷ []) }
+fn pin_checks(q: Access) -> Result<(), Refusal>
+    ensures { refusal_as result ≡ refusal ((3 for nonzero (q.s ∷ q.a ∷ q.b ∷ q.c ∷ [])) ∷ (5 for not_by local (side_of q.side)) ∷ []) }
 {
-    access::when(
-        access::UNUSED_FIELD,
-        access::nonzero(q.s, q.a, q.b, q.c),
-        access::when(
-            access::WRONG_SIDE,
-            access::wrong_side(access::LOCAL, q.side),
-            0,
-        ),
-    )
+    Refusal::UnusedField.when(access::nonzero(q.s, q.a, q.b, q.c))?;
+    Refusal::WrongSide.when(access::wrong_side(access::LOCAL, q.side))
 }
 
 // KINDS
@@ -86,9 +71,8 @@ pub fn read(card: Card, q: Access) -> Outcome
     requires { sound (state_as card) ≡ true }
     ensures { (m w : List ℕ) → Did model.interrupt_read card q m w result m w }
 {
-    let n = access::no_field(q);
-    if n != 0 {
-        return card.refused(n);
+    if let Err(refusal) = access::no_field(q) {
+        return card.refused(refusal);
     }
     read_register(card, q.side)
 }
@@ -97,9 +81,8 @@ pub fn read(card: Card, q: Access) -> Outcome
 pub fn write(card: Card, q: Access) -> Outcome
     ensures { (m w : List ℕ) → Did model.interrupt_write card q m w result m w }
 {
-    let n = access::value_only(q);
-    if n != 0 {
-        return card.refused(n);
+    if let Err(refusal) = access::value_only(q) {
+        return card.refused(refusal);
     }
     write_register(card, q.side, q.b)
 }
@@ -108,9 +91,8 @@ pub fn write(card: Card, q: Access) -> Outcome
 pub fn line(card: Card, q: Access) -> Outcome
     ensures { (m w : List ℕ) → Did model.line card q m w result m w }
 {
-    let n = access::no_field(q);
-    if n != 0 {
-        return card.refused(n);
+    if let Err(refusal) = access::no_field(q) {
+        return card.refused(refusal);
     }
     line_level(card, q.side)
 }
@@ -119,9 +101,8 @@ pub fn line(card: Card, q: Access) -> Outcome
 pub fn external_pin(card: Card, q: Access) -> Outcome
     ensures { (m w : List ℕ) → Did model.external_pin card q m w result m w }
 {
-    let n = pin_refusal(q);
-    if n != 0 {
-        return card.refused(n);
+    if let Err(refusal) = pin_checks(q) {
+        return card.refused(refusal);
     }
     raise_external(card)
 }

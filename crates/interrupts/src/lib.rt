@@ -11,7 +11,7 @@ ghost use Rattle.interrupts.specs.Bridge.{interrupts_as, raised_both};
 use events::{EventSet, Register};
 
 // "HINT is the host's, LINT (0x04F4) the local side's."
-#[derive(Clone, Copy)]
+#[derive(Clone, Copy, Default)]
 pub struct Interrupts {
     pub hint: Register,
     pub lint: Register,
@@ -21,18 +21,13 @@ impl Interrupts {
     pub fn fresh() -> Interrupts
         ensures { interrupts_as result ≡ fresh_interrupts }
     {
-        Interrupts {
-            hint: Register::fresh(),
-            lint: Register::fresh(),
-        }
+        Interrupts::default()
     }
 
     pub fn sound(self) -> bool
         ensures { result ≡ interrupts_sound (interrupts_as self) }
     {
-        let hint = self.hint;
-        let lint = self.lint;
-        hint.sound(access::HOST) & lint.sound(access::LOCAL)
+        self.hint.sound(access::HOST) & self.lint.sound(access::LOCAL)
     }
 
     // "Caller's own register."
@@ -49,21 +44,23 @@ impl Interrupts {
     fn with(self, side: u8, register: Register) -> Interrupts
         ensures { interrupts_as result ≡ on_register (side_of side) (λ _. register_as register) (interrupts_as self) }
     {
-        let mut interrupts = self;
         if side == access::HOST {
-            interrupts.hint = register;
-            interrupts
+            Interrupts {
+                hint: register,
+                ..self
+            }
         } else {
-            interrupts.lint = register;
-            interrupts
+            Interrupts {
+                lint: register,
+                ..self
+            }
         }
     }
 
     pub fn raise(self, side: u8, events: EventSet) -> Interrupts
         ensures { interrupts_as result ≡ on_register (side_of side) (raised_all events.0) (interrupts_as self) }
     {
-        let register = self.register(side);
-        self.with(side, register.raise(events))
+        self.with(side, self.register(side).raise(events))
     }
 
     // "Raised in both registers."
@@ -78,7 +75,6 @@ impl Interrupts {
     pub fn write(self, side: u8, value: u32) -> Interrupts
         ensures { interrupts_as result ≡ on_register (side_of side) (cleared_in value) (on_register (side_of side) (enables_in (common (value / 65536) (enable_mask (side_of side)))) (interrupts_as self)) }
     {
-        let register = self.register(side);
-        self.with(side, register.write(side, value))
+        self.with(side, self.register(side).write(side, value))
     }
 }

@@ -1,8 +1,8 @@
 -- Reads and writes of a memory by lanes are merges, shown one lane at a time.
-use Rattle.std.specs.Prelude.{◌≡◌, refl, Bool, true, false, List, [], ◌∷◌, ℕ, zero, suc, ◌+◌, ◌/◌, ◌≤◌, get_or, set, length, replicate, take, drop, if◌then◌else◌}
-use Rattle.std.proofs.Common.{ap, sym, ◌∙◌, add-one, arith, get_or-set_other, drop-cons, take_all}
+use Rattle.std.specs.Prelude.{◌≡◌, refl, Bool, true, false, List, [], ◌∷◌, ℕ, zero, suc, ◌+◌, ◌/◌, ◌≤◌, get_or, set, length, replicate, take, drop, ◌++◌, if◌then◌else◌}
+use Rattle.std.proofs.Common.{ap, sym, ◌∙◌, append_assoc, add-one, arith, get_or-set_other, drop-cons, take_all, drop-drop}
 use Rattle.std.proofs.lemmas.List.{set-get_or}
-use Rattle.std.proofs.lemmas.List.Edits.{sets}
+use Rattle.std.proofs.lemmas.List.Edits.{sets, sets-eq}
 use Rattle.model.specs.Lanes.{bytes_of, enabled, lane_values, byte_at, stores, write_dword}
 use Rattle.model.proofs.LaneLaws.{covers_from, values_same}
 use Rattle.lanes.specs.Bridge.{merge}
@@ -43,7 +43,10 @@ sets_merge (b ∷ bs) m at lanes =
     one true = refl
     one false = set-get_or m at 0
 
-pub write_four : (m r : List ℕ) (at lanes v : ℕ) → r ≡ merge lanes (lane_values 4 (byte_at m) at 0) (bytes_of 4 v)
-    → set (set (set (set m at (get_or r 0 0)) (at + 1) (get_or r 1 0)) (at + 1 + 1) (get_or r 2 0)) (at + 1 + 1 + 1) (get_or r 3 0) ≡ write_dword m at lanes v
+-- a write of the four merged bytes where they were read
+pub write_four : (m r : List ℕ) (at n lanes v : ℕ) → at + 4 ≤ length m → n ≡ 4 → r ≡ merge lanes (lane_values 4 (byte_at m) at 0) (bytes_of 4 v) →
+    take at m ++ (r ++ drop n (drop at m)) ≡ write_dword m at lanes v
 unfolding write_dword
-write_four m r at lanes v h = rw h (simp add-one (simp add-one at (sets_merge (bytes_of 4 v) m at lanes)))
+write_four m r at n lanes v l k h =
+    let four : length r ≡ 4 = ap length h in
+    rw (k, drop-drop 4 at m, ← append_assoc) (sym (rw four at (sets-eq r m at (omega (arith, four)))) ∙ rw h (sets_merge (bytes_of 4 v) m at lanes))

@@ -10,41 +10,18 @@ pub const ALL_LANES: u8 = 0;
 
 pub const NO_LANES: u8 = 15;
 
-// A byte below the number of the bytes above it: the step by which `dword_of` gathers a dword from lane 3 down.
-fn with_low_byte(byte: u8, high: u32) -> u32
-    requires { high < 16777216 }
-    ensures value { result ≡ byte + 256 * high }
-    ensures upper_bound { result < 256 + 256 * high }
-{
-    byte as u32 + 256 * high
-}
-
 // "A dword is four bytes, lane 0 first, and lane 0 holds bits 7 to 0."
 pub fn dword_of(bytes: [u8; 4]) -> u32
     ensures { result ≡ dword_of bytes }
 {
-    with_low_byte(
-        bytes[0],
-        with_low_byte(
-            bytes[1],
-            with_low_byte(bytes[2], with_low_byte(bytes[3], 0)),
-        ),
-    )
+    u32::from_le_bytes(bytes)
 }
 
 // The four bytes of a dword, lane 0 first.
 pub fn bytes_of(dword: u32) -> [u8; 4]
     ensures { result ≡ bytes_of 4 dword }
 {
-    let v1 = dword / 256;
-    let v2 = v1 / 256;
-    let v3 = v2 / 256;
-    [
-        (dword % 256) as u8,
-        (v1 % 256) as u8,
-        (v2 % 256) as u8,
-        (v3 % 256) as u8,
-    ]
+    dword.to_le_bytes()
 }
 
 // "Lane bits are active low: 0 enables." The lowest lane of the mask takes the new byte or keeps the old one.
@@ -58,14 +35,11 @@ fn lane(old: u8, new: u8, lanes: u8) -> u8
 pub fn merged(old: [u8; 4], new: [u8; 4], lanes: u8) -> [u8; 4]
     ensures { result ≡ merge lanes old new }
 {
-    let l1 = lanes / 2;
-    let l2 = l1 / 2;
-    let l3 = l2 / 2;
     [
         lane(old[0], new[0], lanes),
-        lane(old[1], new[1], l1),
-        lane(old[2], new[2], l2),
-        lane(old[3], new[3], l3),
+        lane(old[1], new[1], lanes / 2),
+        lane(old[2], new[2], lanes / 2 / 2),
+        lane(old[3], new[3], lanes / 2 / 2 / 2),
     ]
 }
 
@@ -74,10 +48,7 @@ pub fn bytes_at(mem: &[u8], at: usize) -> [u8; 4]
     requires { at + 4 ≤ length mem.now }
     ensures { result ≡ lane_values 4 (byte_at mem.now) at 0 }
 {
-    let a1 = at + 1;
-    let a2 = a1 + 1;
-    let a3 = a2 + 1;
-    [mem[at], mem[a1], mem[a2], mem[a3]]
+    [mem[at], mem[at + 1], mem[at + 2], mem[at + 3]]
 }
 
 // The dword at an address of a memory, "disabled lanes 0".
@@ -94,11 +65,5 @@ pub fn write_dword(mem: &mut [u8], at: usize, lanes: u8, dword: u32)
     ensures { mem.new ≡ write_dword mem.old at lanes dword }
 {
     let stored = merged(bytes_at(mem, at), bytes_of(dword), lanes);
-    let a1 = at + 1;
-    let a2 = a1 + 1;
-    let a3 = a2 + 1;
-    mem[at] = stored[0];
-    mem[a1] = stored[1];
-    mem[a2] = stored[2];
-    mem[a3] = stored[3];
+    mem[at..at + 4].copy_from_slice(&stored);
 }

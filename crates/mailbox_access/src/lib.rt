@@ -19,13 +19,12 @@ const RING: u32 = 16777216;
 fn write_data(card: Card, side: u8, value: u32) -> Outcome
     ensures { Effected (mail_written (side_of side) value) card result }
 {
-    let mailboxes = card.mailboxes;
-    let stored = card.with_mailboxes(mailboxes.write(side, value % 65536));
+    let stored = card.with_mailboxes(card.mailboxes.write(side, value % 65536));
     if value / RING % 2 == 1 {
-        let interrupts = card.interrupts;
-        return stored
-            .with_interrupts(interrupts.raise(access::other_side(side), events::MAILBOX))
-            .done(0, 0);
+        let raised = card
+            .interrupts
+            .raise(access::other_side(side), events::MAILBOX);
+        return stored.with_interrupts(raised).done(0, 0);
     }
     stored.done(0, 0)
 }
@@ -34,17 +33,15 @@ fn write_data(card: Card, side: u8, value: u32) -> Outcome
 fn read_data(card: Card, side: u8) -> Outcome
     ensures { Effected (done (mail_for (side_of side) (state_as card).mailboxes) (label_for (side_of side) (state_as card).mailboxes) []) card result }
 {
-    let mailboxes = card.mailboxes;
-    card.done(mailboxes.read(side), mailboxes.label(side))
+    card.done(card.mailboxes.read(side), card.mailboxes.label(side))
 }
 
 // 9 mailbox write
 pub fn write(card: Card, q: Access) -> Outcome
     ensures { (m w : List ℕ) → Did model.mailbox_write card q m w result m w }
 {
-    let n = access::value_only(q);
-    if n != 0 {
-        return card.refused(n);
+    if let Err(refusal) = access::value_only(q) {
+        return card.refused(refusal);
     }
     write_data(card, q.side, q.b)
 }
@@ -53,9 +50,8 @@ pub fn write(card: Card, q: Access) -> Outcome
 pub fn read(card: Card, q: Access) -> Outcome
     ensures { (m w : List ℕ) → Did model.mailbox_read card q m w result m w }
 {
-    let n = access::no_field(q);
-    if n != 0 {
-        return card.refused(n);
+    if let Err(refusal) = access::no_field(q) {
+        return card.refused(refusal);
     }
     read_data(card, q.side)
 }

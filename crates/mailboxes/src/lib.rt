@@ -8,8 +8,9 @@ ghost use Rattle.mailboxes.specs.Bridge.{mailboxes_as};
 
 use bays::BayIndex;
 
-// "HLDATA (0x04E8) goes from host to local, LHDATA (0x04F8) back." `lhwritten`: LHDATA was written since reset.
-#[derive(Clone, Copy)]
+// "HLDATA (0x04E8) goes from host to local, LHDATA (0x04F8) back." `lhwritten`: LHDATA was written since reset. It
+// stands beside the data, as in the definition: data of either kind may have been written or not.
+#[derive(Clone, Copy, Default)]
 pub struct Mailboxes {
     pub hldata: u32,
     pub lhdata: u32,
@@ -20,11 +21,7 @@ impl Mailboxes {
     pub fn fresh() -> Mailboxes
         ensures { mailboxes_as result ≡ fresh_mailboxes }
     {
-        Mailboxes {
-            hldata: 0,
-            lhdata: 0,
-            lhwritten: false,
-        }
+        Mailboxes::default()
     }
 
     // "Mailbox data is below 65,536."
@@ -41,14 +38,13 @@ impl Mailboxes {
         if side == access::HOST {
             Mailboxes {
                 hldata: word,
-                lhdata: self.lhdata,
-                lhwritten: self.lhwritten,
+                ..self
             }
         } else {
             Mailboxes {
-                hldata: self.hldata,
                 lhdata: word,
                 lhwritten: true,
+                ..self
             }
         }
     }
@@ -68,14 +64,11 @@ impl Mailboxes {
     pub fn label(self, side: u8) -> u32
         ensures { result ≡ label_for (side_of side) (mailboxes_as self) }
     {
-        if side != access::HOST {
-            return 0;
+        if side == access::HOST && self.lhwritten {
+            let index = BayIndex::from((self.lhdata % 256) as u8);
+            u8::from(bays::label(index)) as u32
+        } else {
+            0
         }
-        if self.lhwritten {
-            let index = self.lhdata % 256;
-            let label = bays::label(BayIndex::of_byte(index as u8));
-            return label.number() as u32;
-        }
-        0
     }
 }

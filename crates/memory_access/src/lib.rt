@@ -5,65 +5,45 @@ ghost use Rattle.std.specs.Prelude.{◌≡◌, List, ℕ, length};
 ghost use Rattle.model.specs.Checks.{refusal, shared_length};
 ghost use Rattle.model.specs.Sides.{side_of};
 ghost use Rattle.model.specs.Accesses as model;
+ghost use Rattle.access.specs.Bridge.{refusal_as};
 ghost use Rattle.settings.specs.Bridge.{settings_as};
 ghost use Rattle.card.specs.Bridge.{Did};
 ghost use Rattle.memory_access.specs.Bridge.{shared_checks, window_checks};
 
-use access::Access;
+use access::{Access, Refusal};
 use card::{Card, Outcome};
 use settings::Settings;
 
 // CHECKS. Of the fields B and C, reads use neither and writes use B; a caller hands in 0 for a field that its kind uses.
 
 // Kinds 1 and 2: S a lane mask, A an address of shared memory.
-fn shared_refusal(q: Access, b: u32) -> u8
-    ensures { result ≡ refusal (shared_checks q.s q.a b q.c) }
+fn check_shared(q: Access, b: u32) -> Result<(), Refusal>
+    ensures { refusal_as result ≡ refusal (shared_checks q.s q.a b q.c) }
 {
-    access::when(
-        access::UNUSED_FIELD,
-        access::nonzero(0, 0, b, q.c),
-        access::when(
-            access::SELECTOR,
-            15 < q.s,
-            access::when(
-                access::ADDRESS,
-                access::misplaced(q.a, 4, 0, access::SHARED_LENGTH),
-                0,
-            ),
-        ),
-    )
+    Refusal::UnusedField.when(access::nonzero(0, 0, b, q.c))?;
+    Refusal::Selector.when(15 < q.s)?;
+    Refusal::Address.when(access::misplaced(q.a, 4, 0, access::SHARED_LENGTH))
 }
 
 // Kinds 3 and 4, "host only": A is a PCI address.
-fn window_refusal(settings: Settings, q: Access, b: u32) -> u8
-    ensures { result ≡ refusal (window_checks (settings_as settings) (side_of q.side) q.s q.a b q.c) }
+fn check_window(settings: Settings, q: Access, b: u32) -> Result<(), Refusal>
+    ensures { refusal_as result ≡ refusal (window_checks (settings_as settings) (side_of q.side) q.s q.a b q.c) }
 {
-    let outside = settings.outside_window(q.a, 4);
-    access::when(
-        access::UNUSED_FIELD,
-        access::nonzero(0, 0, b, q.c),
-        access::when(
-            access::SELECTOR,
-            15 < q.s,
-            access::when(
-                access::WRONG_SIDE,
-                access::wrong_side(access::HOST, q.side),
-                access::when(access::ADDRESS, outside, 0),
-            ),
-        ),
-    )
+    Refusal::UnusedField.when(access::nonzero(0, 0, b, q.c))?;
+    Refusal::Selector.when(15 < q.s)?;
+    Refusal::WrongSide.when(access::wrong_side(access::HOST, q.side))?;
+    Refusal::Address.when(settings.outside_window(q.a, 4))
 }
 
-// READS AND WRITES
+// READS AND WRITES, of a memory each, whose checks and places differ
 
 // 1 shared read
 pub fn shared_read(card: Card, shared: &[u8], q: Access) -> Outcome
     requires { length shared.now ≡ shared_length }
     ensures { (w : List ℕ) → Did model.shared_read card q shared.now w result shared.now w }
 {
-    let number = shared_refusal(q, q.b);
-    if number != 0 {
-        return card.refused(number);
+    if let Err(refusal) = check_shared(q, q.b) {
+        return card.refused(refusal);
     }
     card.done(lanes::read_dword(shared, q.a as usize, q.s), 0)
 }
@@ -73,9 +53,8 @@ pub fn shared_write(card: Card, shared: &mut [u8], q: Access) -> Outcome
     requires { length shared.old ≡ shared_length }
     ensures { (w : List ℕ) → Did model.shared_write card q shared.old w result shared.new w }
 {
-    let number = shared_refusal(q, 0);
-    if number != 0 {
-        return card.refused(number);
+    if let Err(refusal) = check_shared(q, 0) {
+        return card.refused(refusal);
     }
     lanes::write_dword(shared, q.a as usize, q.s, q.b);
     card.done(0, 0)
@@ -86,12 +65,10 @@ pub fn window_read(card: Card, window: &[u8], q: Access) -> Outcome
     requires { length window.now ≡ card.settings.length }
     ensures { (m : List ℕ) → Did model.window_read card q m window.now result m window.now }
 {
-    let settings = card.settings;
-    let number = window_refusal(settings, q, q.b);
-    if number != 0 {
-        return card.refused(number);
+    if let Err(refusal) = check_window(card.settings, q, q.b) {
+        return card.refused(refusal);
     }
-    card.done(lanes::read_dword(window, settings.offset(q.a), q.s), 0)
+    card.done(lanes::read_dword(window, card.settings.offset(q.a), q.s), 0)
 }
 
 // 4 window write
@@ -99,11 +76,9 @@ pub fn window_write(card: Card, window: &mut [u8], q: Access) -> Outcome
     requires { length window.old ≡ card.settings.length }
     ensures { (m : List ℕ) → Did model.window_write card q m window.old result m window.new }
 {
-    let settings = card.settings;
-    let number = window_refusal(settings, q, 0);
-    if number != 0 {
-        return card.refused(number);
+    if let Err(refusal) = check_window(card.settings, q, 0) {
+        return card.refused(refusal);
     }
-    lanes::write_dword(window, settings.offset(q.a), q.s, q.b);
+    lanes::write_dword(window, card.settings.offset(q.a), q.s, q.b);
     card.done(0, 0)
 }

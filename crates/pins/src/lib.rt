@@ -3,14 +3,26 @@
 
 ghost use Rattle.std.specs.Prelude.{◌≡◌, ◌≤◌, get_or};
 ghost use Rattle.model.specs.Pins.{lanes16, motorola_rows, lanes_of, decode};
-ghost use Rattle.pins.specs.Bridge.{decoded_as, one_lane, carried_in};
+ghost use Rattle.pins.specs.Bridge.{decoded_as, one_lane, carried_in, refused_decoded};
 
-// The number is 0, or that of a refusal.
+use access::Refusal;
+
 #[derive(Clone, Copy)]
 pub struct Decoded {
-    pub number: u8,
     pub lanes: u8,
     pub dword: u32,
+}
+
+impl Decoded {
+    // What stands beside the number of a refusal: "lanes 15, dword 0".
+    pub fn refused() -> Decoded
+        ensures { result ≡ refused_decoded }
+    {
+        Decoded {
+            lanes: lanes::NO_LANES,
+            dword: 0,
+        }
+    }
 }
 
 // The lane mask that enables one lane alone: mode 0's, and those that mode 2 is made of.
@@ -49,7 +61,7 @@ fn lanes_motorola(pins: u8) -> u8
     }
 }
 
-// The lane mask of a mode and its pins. Mode 0: "BE[3:2] is A1 A0 and picks the one lane"; mode 3: "lanes are the pins".
+// The lane mask of a mode, a byte as `decode` is handed it, and its pins. Mode 0: "BE[3:2] is A1 A0 and picks the one lane"; mode 3: "lanes are the pins".
 fn mask(mode: u8, pins: u8) -> u8
     requires { (mode ≤ 3) × (pins ≤ 15) }
     ensures { result ≡ lanes_of mode pins }
@@ -69,28 +81,22 @@ fn carried(mode: u8, dq: u32) -> [u8; 4]
 {
     let b = lanes::bytes_of(dq);
     match mode {
-        0 => [b[0], b[0], b[0], b[0]],
+        0 => [b[0]; 4],
         1 | 2 => [b[0], b[1], b[0], b[1]],
         _ => b,
     }
 }
 
 // "Mode above 3 or pins above 15 is refused with 4, lanes 15, dword 0." Else "unused lanes are 0".
-pub fn decode(mode: u8, pins: u8, dq: u32) -> Decoded
+#[tactic(auto, using(model::proofs::PinLaws::decode_is), unfolding(model::specs::Pins::decode))]
+pub fn decode(mode: u8, pins: u8, dq: u32) -> Result<Decoded, Refusal>
     ensures { decoded_as result ≡ decode mode pins dq }
 {
-    if mode > 3 || pins > 15 {
-        return Decoded {
-            number: access::SELECTOR,
-            lanes: lanes::NO_LANES,
-            dword: 0,
-        };
-    }
+    Refusal::Selector.when((mode > 3) | (pins > 15))?;
     let lanes = mask(mode, pins);
-    let held = lanes::merged([0, 0, 0, 0], carried(mode, dq), lanes);
-    Decoded {
-        number: 0,
+    let held = lanes::merged([0; 4], carried(mode, dq), lanes);
+    Ok(Decoded {
         lanes,
         dword: lanes::dword_of(held),
-    }
+    })
 }

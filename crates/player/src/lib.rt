@@ -11,9 +11,8 @@ ghost use Rattle.decimal.specs.Bridge.{Written};
 ghost use Rattle.standing.specs.Bridge.{standing_as};
 ghost use Rattle.player.specs.Bridge.{Played};
 
-use access::Answer;
+use access::{Access, Answer, Refusal};
 use standing::Standing;
-use trace::Read;
 
 // Where the text ends in the lent buffer, and where the replay stands then.
 #[derive(Clone, Copy)]
@@ -23,12 +22,12 @@ pub struct Replayed {
 }
 
 // The number of a reader's refusal; 0 where it read a record.
-fn refusal_number(read: Read) -> u8
+fn refusal_number(read: Result<Access, Refusal>) -> u8
     ensures { result ≡ reading_number (read_as read) }
 {
     match read {
-        Read::Record(_) => 0,
-        Read::Refused(number) => number,
+        Ok(_) => 0,
+        Err(refusal) => refusal.number(),
     }
 }
 
@@ -39,8 +38,8 @@ fn write_answer(out: &mut [u8], at: usize, number: u16, answer: Answer) -> usize
     ensures upper_bound { result ≤ at + 32 }
 {
     match answer {
-        Answer::Done(v, x) => report::write_line(out, at, number, 0, v, x),
-        Answer::Refused(refusal) => report::write_line(out, at, number, refusal, 0, 0),
+        Ok(done) => report::write_line(out, at, number, 0, done.v, done.x),
+        Err(refusal) => report::write_line(out, at, number, refusal.number(), 0, 0),
     }
 }
 
@@ -66,28 +65,23 @@ pub fn answer_chunk(
     }
     let mut standing = start;
     let mut end = 0;
-    let mut at = 0;
-    while at < input.len() {
+    for record in input.chunks(20) {
         let expected = standing.expected;
-        let read = trace::read_record(&input[at..], expected);
-        let Read::Record(q) = read else {
+        let read = trace::read_record(record, expected);
+        // Document 01 orders that `let .. else` takes the reader's answer apart.
+        let Ok(q) = read else {
             end = report::write_log(out, end, refusal_number(read), standing.count);
             return Replayed {
-                end: end,
+                end,
                 standing: standing.stop(),
             };
         };
         // The standing first: with the line written before it, the card would be copied once more.
         let performed = standing.perform(shared, window, q);
         standing = performed.standing;
-        let answer = performed.answer;
-        end = write_answer(out, end, expected, answer);
-        at += 20;
+        end = write_answer(out, end, expected, performed.answer);
     }
-    Replayed {
-        end: end,
-        standing: standing,
-    }
+    Replayed { end, standing }
 }
 
 // "Then `end` and the count of records", unless the reader refused one.

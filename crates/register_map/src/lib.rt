@@ -7,10 +7,12 @@ ghost use Rattle.register_map.specs.Bridge.{resource_as};
 
 use dma::Programmed;
 
+// The sides are numbers, and `Unmodelled` is a case and no `None`, as `register_reads::read_at` and `register_writes::write_at`, which are public, are
+// asked for each of these.
 #[derive(Clone, Copy)]
 pub enum Resource {
     // the FIFO that a read takes from, the one that a write puts into
-    Port(u8, u8),
+    Port { taken: u8, put: u8 },
     DmaRegister(Programmed),
     Dmactl,
     Arbutil,
@@ -27,16 +29,7 @@ impl Resource {
     pub fn is_modelled(self) -> bool
         ensures { result ≡ is_modelled (resource_as self) }
     {
-        match self {
-            Resource::Port(_, _) => true,
-            Resource::DmaRegister(_) => true,
-            Resource::Dmactl => true,
-            Resource::Arbutil => true,
-            Resource::InterruptsOf(_) => true,
-            Resource::MailFrom(_) => true,
-            Resource::SharedAt(_) => true,
-            Resource::Unmodelled => false,
-        }
+        !matches!(self, Resource::Unmodelled)
     }
 }
 
@@ -44,10 +37,10 @@ fn register_at(offset: u32) -> Resource
     ensures { resource_as result ≡ found_in registers offset }
 {
     match offset {
-        0x0040 => Resource::Port(0, 1),
-        0x0044 => Resource::Port(3, 2),
-        0x0048 => Resource::Port(1, 0),
-        0x004C => Resource::Port(2, 3),
+        0x0040 => Resource::Port { taken: 0, put: 1 },
+        0x0044 => Resource::Port { taken: 3, put: 2 },
+        0x0048 => Resource::Port { taken: 1, put: 0 },
+        0x004C => Resource::Port { taken: 2, put: 3 },
         0x04B0 => Resource::DmaRegister(Programmed::Dmalbase),
         0x04B4 => Resource::DmaRegister(Programmed::Dmahbase),
         0x04B8 => Resource::DmaRegister(Programmed::Dmasize),
@@ -65,7 +58,7 @@ fn register_at(offset: u32) -> Resource
 pub fn resource_at(offset: u32) -> Resource
     ensures { resource_as result ≡ resource_at offset }
 {
-    if (offset % 4 == 0) & ((0x4000 <= offset) & (offset < 0x8000)) {
+    if (offset % 4 == 0) & (0x4000..0x8000).contains(&offset) {
         return Resource::SharedAt(offset - 0x4000);
     }
     register_at(offset)

@@ -10,6 +10,7 @@ ghost use Rattle.model.specs.Registers.{read_row};
 ghost use Rattle.register_map.specs.Bridge.{resource_as};
 ghost use Rattle.card.specs.Bridge.{state_as, world_as, Settles};
 
+use access::Kind;
 use card::{Card, Outcome};
 use register_map::Resource;
 
@@ -18,10 +19,12 @@ fn read_mail(card: Card, writer: u8, side: u8, dword: u32) -> Outcome
     ensures { (m w : List ℕ) → Settles (read_row (mail_from (side_of writer)) (world_as card m w) (side_of side) dword) card m w result m w }
 {
     if access::wrong_side(writer, side) {
-        return mailbox_access::read(card, access::asked(10, side, 0, 0, dword));
+        return mailbox_access::read(
+            card,
+            access::asked(Kind::MailboxRead as u8, side, 0, 0, dword),
+        );
     }
-    let mailboxes = card.mailboxes;
-    plain_read::told(card, dword, mailboxes.read(access::other_side(writer)))
+    plain_read::told(card, dword, card.mailboxes.read(access::other_side(writer)))
 }
 
 pub fn read_at(card: Card, shared: &[u8], x: Resource, side: u8, dword: u32) -> Outcome
@@ -30,19 +33,26 @@ pub fn read_at(card: Card, shared: &[u8], x: Resource, side: u8, dword: u32) -> 
     ensures { (w : List ℕ) → Settles (read_row (resource_as x) (world_as card shared.now w) (side_of side) dword) card shared.now w result shared.now w }
 {
     match x {
-        Resource::Port(taken, _) => fifo_access::take(
+        Resource::Port { taken, .. } => fifo_access::take(
             card,
-            access::asked(5, side, taken, 0, dword),
+            access::asked(Kind::Take as u8, side, taken, 0, dword),
         ),
         Resource::DmaRegister(which) => dma_access::read(card, which, side, dword),
         Resource::Dmactl => dma_access::read_control(card, side, dword),
         Resource::Arbutil => arbutil::read(card, side, dword),
         Resource::InterruptsOf(owner) => {
-            interrupt_access::read(card, access::asked(11, owner, 0, 0, dword))
+            interrupt_access::read(
+                card,
+                access::asked(Kind::InterruptRead as u8, owner, 0, 0, dword),
+            )
         }
         Resource::MailFrom(writer) => read_mail(card, writer, side, dword),
         Resource::SharedAt(address) => {
-            memory_access::shared_read(card, shared, access::asked(1, side, 0, address, dword))
+            memory_access::shared_read(
+                card,
+                shared,
+                access::asked(Kind::SharedRead as u8, side, 0, address, dword),
+            )
         }
         Resource::Unmodelled => card.done(0, 0),
     }

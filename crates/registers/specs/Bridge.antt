@@ -1,7 +1,6 @@
 -- The three promises of `registers::register_access`, as one property of a call.
-use Rattle.std.specs.Prelude.{◌≡◌, List, ℕ}
+use Rattle.std.specs.Prelude.{◌≡◌, List, ℕ, IsOk}
 use Rattle.model.specs.Registers.{RegisterAccess, register_access}
-use Rattle.access.specs.declared.Answer.TheVariants.{Refused}
 use Rattle.access.specs.Bridge.{answer_as}
 use Rattle.card.specs.declared.Card.{Card}
 use Rattle.card.specs.declared.Outcome.{Outcome}
@@ -11,4 +10,4 @@ use Rattle.card.specs.Bridge.{world_as, outcome_as}
 -- done is answered as done.
 abbrev pub RegisterAccessed : Card → RegisterAccess → (m w : List ℕ) → Outcome → (m' w' : List ℕ) → Type 0
 RegisterAccessed card q m w r m' w' =
-    (outcome_as r m' w' ≡ register_access (world_as card m w) q) × ((((answer_as r.answer).number ≡ 0 → ⊥) → r.card ≡ card) × (r.answer ≡ Refused 0 → ⊥))
+    (outcome_as r m' w' ≡ register_access (world_as card m w) q) × ((((answer_as r.answer).number ≡ 0 → ⊥) → r.card ≡ card) × ((answer_as r.answer).number ≡ 0 → IsOk r.answer))

@@ -4,9 +4,8 @@ use Rattle.std.specs.Prelude.{◌≡◌, Bool, true, false, List, ℕ, ◌+◌, 
 use Rattle.std.proofs.lemmas.List.Edits.{sets}
 use Rattle.model.specs.Choice.{All}
 use Rattle.model.specs.Replay.{Standing, replay_start, replay_chunks}
-use Rattle.turn.specs.declared.Turn.{Turn}
-use Rattle.stream.specs.Bridge.{chunk_bytes}
-use Rattle.turn.specs.Bridge.{Turned, closing_text, fault_text}
+use Rattle.stream.specs.Bridge.{chunk_bytes, fault_text}
+use Rattle.turn.specs.Bridge.{Turn, Turned, closing_text}
 
 -- every loop must have an end: no more chunks are read
 abbrev pub most_chunks : ℕ
@@ -19,6 +18,14 @@ pub record Reached (number : ℕ) (now : Standing) : Type 0 where
   pub full : All (λ bytes. length bytes ≡ chunk_bytes) chunks
   pub standing : now ≡ (replay_chunks replay_start chunks).standing
   pub going : now.stopped ≡ false
+
+-- The last of so many chunks stands behind full ones.
+pub record Last (number : ℕ) (turn : Turn) (input out shared window : List ℕ) : Type 0 where
+  pub before : ℕ
+  pub counted : before + 1 ≡ number
+  pub start : Standing
+  pub reached : Reached before start
+  pub last : Turned start turn input out shared window
 
 -- The last chunk stands behind full ones. Nothing more is to be read, or all chunks that may be have been.
 pub record Ended (turn : Turn) (input out shared window : List ℕ) : Type 0 where

@@ -1,6 +1,6 @@
 -- One chunk more behind full ones; and the text of a replay that did not break off is that of the whole trace.
 use Rattle.std.specs.Prelude.{◌≡◌, refl, true, false, ◌⊎◌, ℕ, ◌+◌, ◌<◌, length, take}
-use Rattle.std.proofs.Common.{ap, arith, length-append}
+use Rattle.std.proofs.Common.{ap, ◌∙◌, arith, length-append}
 use mathlib.Core.List.{List, [], ◌∷◌, ◌++◌, flatten}
 use Rattle.model.specs.Choice.{All}
 use Rattle.model.specs.Replay.{Standing, replay_start, replay_text, last_text, replay_chunks}
@@ -8,10 +8,9 @@ use Rattle.model.proofs.ReplayLaws.{chunks_more, WholeRecords, chunked_text}
 use Rattle.standing.specs.Bridge.{standing_as}
 use Rattle.stream.specs.Bridge.{chunk_bytes, broke_off}
 use Rattle.stream.specs.Laws.{end_is}
-use Rattle.turn.specs.declared.Turn.{Turn}
-use Rattle.turn.specs.Bridge.{bytes_of, Turned, closing_text}
+use Rattle.turn.specs.Bridge.{Turn, bytes_of, Turned, closing_text}
 use Rattle.turn.specs.Laws.{more_full, more_going}
-use Rattle.replay.specs.Bridge.{Reached, Ended}
+use Rattle.replay.specs.Bridge.{most_chunks, Reached, Last, Ended}
 
 -- ONE CHUNK MORE
 
@@ -28,7 +27,7 @@ unfolding replay_chunks
 none_yet e = record { chunks = []; counted = refl; full = tt; standing = e; going = ap (λ (s : Standing). s.stopped) e }
 
 pub chunk_more : {k : ℕ} {start : Standing} {turn : Turn} {input out shared window : List ℕ} → length input ≡ chunk_bytes → turn.more ≡ true →
-    Reached k start → Turned start turn input out shared window → Reached (k + 1) (standing_as turn.standing shared window)
+    Reached k start → Turned start turn input out shared window → Reached (k + 1) (standing_as turn.work.standing shared window)
 chunk_more {turn} {input} h m r t =
     let bytes = bytes_of turn input in
     record {
@@ -38,6 +37,11 @@ chunk_more {turn} {input} h m r t =
       standing = rw (chunks_more replay_start r.chunks bytes, ← r.standing) t.standing;
       going = more_going t m;
     }
+
+-- the last chunk is where the loop ended
+pub ended : {k : ℕ} {turn : Turn} {input out shared window : List ℕ} → Last k turn input out shared window → (turn.more ≡ true → k ≡ most_chunks) →
+    Ended turn input out shared window
+ended l b = record { before = l.before; start = l.start; reached = l.reached; last = l.last; bound = λ m. l.counted ∙ b m }
 
 -- A REPLAY THAT DID NOT BREAK OFF
 
@@ -53,12 +57,12 @@ module _ {turn : Turn} {input out shared window : List ℕ} (e : Ended turn inpu
   chunks_of = e.reached.chunks ++ (bytes_of turn input ∷ [])
 
   -- The text of the chunks before the last, by definition, that of the last in the buffer and the last line are the text of the whole trace.
-  pub text_whole : broke_off turn.chunk turn.lost turn.more ≡ false → ((replay_chunks replay_start e.reached.chunks).text ++ take turn.end out) ++ closing_text turn ≡ replay_text (flatten chunks_of)
+  pub text_whole : broke_off turn.chunk turn.lost turn.more ≡ false → ((replay_chunks replay_start e.reached.chunks).text ++ take turn.work.end out) ++ closing_text turn ≡ replay_text (flatten chunks_of)
   text_whole h =
       let whole = chunked_text chunks_of (full_whole e.reached.chunks (bytes_of turn input) e.reached.full) in
       rw (h, e.last.text, ap (λ (s : Standing). last_text s.stopped s.count) e.last.standing, e.reached.standing)
       (rw (chunks_more replay_start e.reached.chunks (bytes_of turn input)) at whole)
 
   -- It was the end of the input that ended it, or a refusal: the last chunk is short, or the reader refused a record of it.
-  pub end_reached : broke_off turn.chunk turn.lost turn.more ≡ false → (turn.chunk.size < chunk_bytes) ⊎ (turn.standing.stopped ≡ true)
-  end_reached h = end_is turn.chunk turn.standing.stopped turn.lost turn.more e.last.size e.last.more h
+  pub end_reached : broke_off turn.chunk turn.lost turn.more ≡ false → (turn.chunk.size < chunk_bytes) ⊎ (turn.work.standing.stopped ≡ true)
+  end_reached h = end_is turn.chunk turn.work.standing.stopped turn.lost turn.more e.last.size e.last.more h

@@ -1,15 +1,16 @@
 // The text of the replay and of the refusals, and the line for standard error: each function stores its text in a lent buffer from a place on, and
-// gives the place after it.
+// gives the place after it. Refusals come as numbers: any byte can be told.
 #![tactic(auto)]
 
 ghost use Rattle.std.specs.Prelude.{◌≡◌, ◌+◌, ◌≤◌, length};
 ghost use Rattle.model.specs.Text.{line_text, end_text, refusal_text, log_text, refused_line_text};
 ghost use Rattle.decimal.specs.Bridge.{Written};
-ghost use Rattle.report.specs.Bridge.{call_text, failed_text};
+ghost use Rattle.report.specs.Bridge.{failed_text};
 
 use decimal::{write_field, write_word};
 
 // The line of an answered record: at most 5, 3, 10 and 10 digits, each number with the byte after it.
+#[tactic(auto, using(model::proofs::TextLaws::digits_8, model::proofs::TextLaws::digits_16, model::proofs::TextLaws::digits_32))]
 pub fn write_line(out: &mut [u8], at: usize, number: u16, answer: u8, v: u32, x: u32) -> usize
     requires { at + 32 ≤ length out.old }
     ensures written { Written out.old at (line_text number answer v x) result out.new }
@@ -22,6 +23,7 @@ pub fn write_line(out: &mut [u8], at: usize, number: u16, answer: u8, v: u32, x:
 }
 
 // The line of a refusal: a word, and then at most 3 and 20 digits.
+#[tactic(auto, using(model::proofs::TextLaws::digits_8, model::proofs::TextLaws::digits_64))]
 fn write_refusal(out: &mut [u8], at: usize, word: &[u8], r: u8, n: u64) -> usize
     requires { at + length word.now + 28 ≤ length out.old }
     ensures written { Written out.old at (refusal_text word.now r n) result out.new }
@@ -52,6 +54,7 @@ pub fn write_refused_line(out: &mut [u8], at: usize, r: u8, line: u64) -> usize
 }
 
 // "then `end` and the count of records": at most 20 digits.
+#[tactic(auto, using(model::proofs::TextLaws::digits_64, decimal::specs::Laws::then), unfolding(model::specs::Text::end_text))]
 pub fn write_end(out: &mut [u8], at: usize, n: u64) -> usize
     requires { at + 25 ≤ length out.old }
     ensures written { Written out.old at (end_text n) result out.new }
@@ -61,25 +64,15 @@ pub fn write_end(out: &mut [u8], at: usize, n: u64) -> usize
     write_field(out, p1, n, b'\n')
 }
 
-fn write_call(out: &mut [u8], at: usize, reading: bool) -> usize
-    requires { at + 7 ≤ length out.old }
-    ensures written { Written out.old at (call_text reading) result out.new }
-    ensures value { result ≡ at + 7 }
-{
-    if reading {
-        write_word(out, at, b"reading")
-    } else {
-        write_word(out, at, b"writing")
-    }
-}
-
 // Which of the two calls failed, and after how many records: at most 20 digits.
+#[tactic(auto, using(model::proofs::TextLaws::digits_64))]
 pub fn write_failed(out: &mut [u8], at: usize, reading: bool, n: u64) -> usize
     requires { at + 50 ≤ length out.old }
     ensures written { Written out.old at (failed_text reading n) result out.new }
     ensures upper_bound { result ≤ at + 50 }
 {
-    let p1 = write_call(out, at, reading);
+    let call: &[u8] = if reading { b"reading" } else { b"writing" };
+    let p1 = write_word(out, at, call);
     let p2 = write_word(out, p1, b" failed after ");
     let p3 = write_field(out, p2, n, b' ');
     write_word(out, p3, b"records\n")

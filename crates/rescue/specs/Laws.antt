@@ -1,94 +1,85 @@
--- An entry more in a list, where it has a place and where not; what a trace half scanned has listed; and an entry read back.
-use Rattle.std.specs.Prelude.{◌≡◌, refl, ◌⊎◌, Bool, not, ◌&&◌, ◌||◌, ℕ, zero, suc, ◌+◌, ◌-◌, ◌*◌, ◌/◌, ◌≤◌, ◌<◌, take, eqb, ltb, if◌then◌else◌}
+-- An entry more in a list, where it has a place and where not; what a trace half scanned has listed; and the answer.
+use Rattle.std.specs.Prelude.{◌≡◌, refl, ℕ, ◌+◌, ◌-◌, ◌*◌, ◌/◌, ◌≤◌, ◌<◌, take, Result, Ok, Err}
 use Rattle.std.proofs.Math.Path.{sym, ap}
-use Rattle.std.proofs.Common.{◌∙◌, inl, inr, length-drop, take_at}
-use Rattle.std.proofs.Math.Bool.{true, false}
+use Rattle.std.proofs.Common.{◌∙◌, length-drop, take_at}
 use mathlib.Core.List.{List, [], ◌∷◌, ◌++◌, append_assoc, append-nil}
 use native.Mathlib.Omega.{arith}
 use Rattle.std.proofs.Math.ListN.{length, drop, length-append}
 use Rattle.std.proofs.lemmas.List.Edits.{sets, sets-eq}
-use Rattle.std.proofs.Math.Seq.{take_all, drop-append-add, drop-drop, drop-length, length-take-le}
+use Rattle.std.proofs.Math.Seq.{take_all, drop-append-add, drop-drop, drop-length}
 use Rattle.std.proofs.lemmas.List.{take-append-le}
-use borrow.Author.Tests.{lt-ltb, le-ltb, ltb-true, ltb-false, eqb-true, eqb-false}
-use Rattle.model.proofs.TestLaws.{or_left, or_right}
 use Rattle.model.specs.Trace.{next_number, number_at}
-use Rattle.model.specs.Rescue.{Entry, Place, range, kept_at, moved, listed, after, scan, entry_numbers, numbers_of, entries, count, refused, rescue, entries_from, kept_first}
-use Rattle.model.proofs.LentListLaws.{entry_three, numbers_length, numbers_append}
+use Rattle.model.specs.Rescue.{Entry, Place, range, kept_at, moved, listed, after, scan, entry_numbers, numbers_of, entries, rescue, entries_from, kept_first}
+use Rattle.model.proofs.LentListLaws.{rescue_fits, rescue_full, entry_three, numbers_length, numbers_append}
 use Rattle.model.proofs.ScanLaws.{entries_then}
+use Rattle.access.specs.declared.Refusal.{Refusal}
+use Rattle.access.specs.declared.Refusal.TheVariants.{ListFull}
 use Rattle.scan.specs.Bridge.{place_as, Ahead}
 use Rattle.scan.specs.Laws.{skips, behind, skips_listed, skips_after, up_to, record_listed, record_after, record_ahead}
-use Rattle.rescue.specs.declared.Filled.{Filled}
 use Rattle.rescue.specs.declared.Standing.{Standing}
-use Rattle.rescue.specs.Bridge.{fitting, Holds, Half}
+use Rattle.rescue.specs.Bridge.{rescued_as, Holds, Full, Stored, Half}
 
 -- AN ENTRY MORE
 
--- at most so many are taken, and no more than there are
-take_most : {A : Type 0} (n : ℕ) (l : List A) → (length (take n l) ≤ n) × (length (take n l) ≤ length l)
-take_most zero l = (omega arith, omega arith)
-take_most (suc n) [] = (omega arith, omega arith)
-take_most (suc n) (a ∷ l) = let t = take_most n l in (omega arith, omega arith)
+-- numbers stored at a place, by the part of the list that they are written to
+pub part_stored : (list s : List ℕ) (at n : ℕ) → at + length s ≤ length list → n ≡ length s → take at list ++ (s ++ drop n (drop at list)) ≡ sets list at s
+part_stored list s at n h e = rw (e, drop-drop (length s) at list, ← append_assoc) (sym (sets-eq s list at h))
 
 -- numbers stored behind others
 behind_others : (a b s : List ℕ) (n : ℕ) → length a ≡ n → n + length s ≤ length (a ++ b) → sets (a ++ b) n s ≡ a ++ (s ++ drop (length s) b)
 behind_others a b s n e h = sets-eq s (a ++ b) n h ∙ rw (take_at a b n e, ← e, drop-append-add a b (length s), append_assoc)
 
-pub none_held : (list : List ℕ) → Holds list [] (record { count = 0; over = false }) list
+pub none_held : (list : List ℕ) → Holds list [] 0 list
 unfolding numbers_of
-none_held list =
-    let none : ◌≡◌ {A = List Entry} (take (length list / 3) []) [] = take_all (length list / 3) [] (omega arith) in
-    record { count = rw none; over = sym (le-ltb (length list / 3) 0 (omega arith)); list = rw none }
+none_held list = record { count = refl; places = omega arith; list = refl }
 
-module _ {before now : List ℕ} {es : List Entry} {f : Filled} (h : Holds before es f now) where
+module _ {before now : List ℕ} {es : List Entry} {count : ℕ} (h : Holds before es count now) where
   abbrev places : ℕ
   places = length before / 3
 
-  abbrev held : List Entry
-  held = fitting before es
-
   -- the list is as long as before, and holds no more entries than it has places
-  pub held_length : (length now ≡ length before) × (f.count ≤ length before / 3)
+  pub held_length : (length now ≡ length before) × (count ≤ length before / 3)
   held_length =
-      let most = take_most places es in
-      let long = ap length h.list ∙ length-append (numbers_of held) (drop (3 * length held) before) in
-      (omega (arith, long, numbers_length held, length-drop (3 * length held) before, most), omega (arith, h.count, most))
+      let long = ap length h.list ∙ length-append (numbers_of es) (drop (3 * length es) before) in
+      (omega (arith, long, numbers_length es, length-drop (3 * length es) before, h.places), omega (arith, h.count, h.places))
 
   -- where no place is left, the list stays, and one entry does not fit
-  pub no_place : (e : Entry) → (f.over || eqb f.count (length now / 3)) ≡ true → Holds before (es ++ (e ∷ [])) (record { count = f.count; over = true }) now
+  pub no_place : (e : Entry) → count ≡ length now / 3 → Full before (es ++ (e ∷ [])) now
   no_place e g =
-      let full = by f.over refl g in
-      let same = take-append-le places es (e ∷ []) full in
-      record {
-        count = rw same h.count;
-        over = sym (lt-ltb places (length (es ++ (e ∷ []))) (omega (arith, length-append es (e ∷ []))));
-        list = rw same h.list;
-      }
-    where
-      by : (over : Bool) → f.over ≡ over → (over || eqb f.count (length now / 3)) ≡ true → places ≤ length es
-      by true o g = omega (arith, ltb-true places (length es) (sym h.over ∙ o))
-      by false o g = omega (arith, eqb-true f.count (length now / 3) g, held_length, h.count, take_most places es)
+      let full : places ≡ length es = omega (arith, held_length, h.count, g) in
+      let same : take places (es ++ (e ∷ [])) ≡ es = take-append-le places es (e ∷ []) (omega (arith, full)) ∙ take_all places es (omega (arith, full)) in
+      record { over = omega (arith, full, length-append es (e ∷ [])); list = rw (same, full) h.list }
 
   -- else it stands behind the others
-  pub one_held : (e : Entry) → (f.over || eqb f.count (length now / 3)) ≡ false →
-      Holds before (es ++ (e ∷ [])) (record { count = f.count + 1; over = false }) (sets now (3 * f.count) (entry_numbers e))
+  pub one_held : (e : Entry) → (count ≡ length now / 3 → ⊥) → Holds before (es ++ (e ∷ [])) (count + 1) (sets now (3 * count) (entry_numbers e))
   unfolding numbers_of
   one_held e g =
-      let within = ltb-false places (length es) (sym h.over ∙ or_left f.over (eqb f.count (length now / 3)) g) in
-      let all = take_all places es within in
       let long = held_length in
-      let room = eqb-false f.count (length now / 3) (or_right f.over (eqb f.count (length now / 3)) g) in
-      let n : f.count ≡ length es = h.count ∙ ap length all in
+      let room : count < length now / 3 = omega (arith, g, long) in
       let more = length-append es (e ∷ []) in
-      let all' = take_all places (es ++ (e ∷ [])) (omega arith) in
-      let is : now ≡ numbers_of es ++ drop (3 * length es) before = rw all at h.list in
-      let stored = behind_others (numbers_of es) (drop (3 * length es) before) (entry_numbers e) (3 * length es) (numbers_length es) (omega (arith, entry_three e, ap length is)) in
+      let stored = behind_others (numbers_of es) (drop (3 * length es) before) (entry_numbers e) (3 * length es) (numbers_length es) (omega (arith, entry_three e, ap length h.list, h.count)) in
       let next : 3 * length es + 3 ≡ 3 * length (es ++ (e ∷ [])) = omega arith in
       record {
-        count = rw all' (omega arith);
-        over = sym (le-ltb places (length (es ++ (e ∷ []))) (omega arith));
+        count = omega (arith, h.count);
+        places = omega (arith, h.count);
         list =
-            rw (n, is) (stored ∙ rw (entry_three e, drop-drop 3 (3 * length es) before, next, all', numbers_append es (e ∷ []), append-nil (entry_numbers e), append_assoc));
+            rw (h.count, h.list) (stored ∙ rw (entry_three e, drop-drop 3 (3 * length es) before, next, numbers_append es (e ∷ []), append-nil (entry_numbers e), append_assoc));
       }
+
+-- entries behind one that did not fit change nothing
+full_more : {before now : List ℕ} {es : List Entry} → Full before es now → (rest : List Entry) → Full before (es ++ rest) now
+full_more {before} {now} {es} f rest =
+    record { over = omega (arith, f.over, length-append es rest); list = rw (take-append-le (length before / 3) es rest (omega (arith, f.over))) f.list }
+
+-- THE ANSWER
+
+full_rescued : (trace : List ℕ) {before now : List ℕ} {r : Refusal} → r ≡ ListFull → Full before (entries trace) now → rescued_as (Err r) now ≡ rescue trace before
+full_rescued trace {before} e f = rw (e, f.list) (sym (rescue_full trace before f.over))
+
+-- all of the trace was scanned: its entries are listed, or the last had no room
+pub all_listed : (trace before now : List ℕ) (es : List Entry) (answer : Result ℕ Refusal) → entries trace ≡ es → Stored before es answer now → rescued_as answer now ≡ rescue trace before
+all_listed trace before now es (Ok n) e h = rw (h.count, h.list, ← e) (sym (rescue_fits trace before (rw (← e) at h.places)))
+all_listed trace before now es (Err r) e h = full_rescued trace h.0 (rw (← e) at h.1)
 
 -- A TRACE HALF SCANNED
 
@@ -111,79 +102,43 @@ module _ {trace : List ℕ} {at next : ℕ} (a : Ahead trace at (length trace) n
 regroup : (es fs gs rest : List Entry) → es ++ ((fs ++ gs) ++ rest) ≡ ((es ++ fs) ++ gs) ++ rest
 regroup es fs gs rest = simp append_assoc
 
--- what a store of entries does, whatever a list held
-abbrev Adds : (es : List Entry) → Filled → (now : List ℕ) → Filled → (after : List ℕ) → Type 0
-Adds es f now g after = (before : List ℕ) (held : List Entry) → Holds before held f now → Holds before (held ++ es) g after
-
 module _ {trace before now : List ℕ} {s : Standing} {next : ℕ} (a : Ahead trace s.at (length trace) next) (h : Half trace before s now) where
   abbrev there : Place
   there = behind (place_as s.place) (next - s.at)
 
   -- bytes are skipped, ..
-  pub half_skipped : {r : Standing} → place_as r.place ≡ there → r.at ≡ next → r.filled ≡ s.filled → Half trace before r now
+  pub half_skipped : {r : Standing} → place_as r.place ≡ there → r.at ≡ next → r.count ≡ s.count → Half trace before r now
   half_skipped p e f = record { es = h.es; split = h.split ∙ rw (skipped_on a (place_as s.place), e, p); holds = rw f h.holds }
 
-  -- .. or they and the record behind them are listed
-  pub half_listed : {r : Standing} {f : Filled} {ranged after : List ℕ} {number : ℕ} {e : Entry} → next < length trace → number ≡ number_at 2 2 (drop next trace) →
+  abbrev ranged : List Entry
+  ranged = h.es ++ range there
+
+  abbrev kept : List Entry
+  kept = kept_at there (number_at 2 2 (drop next trace)) ∷ []
+
+  -- .. or they and the record behind them are listed ..
+  listed_on : next < length trace → entries trace ≡ (ranged ++ kept) ++ entries_from (moved there (kept_first (drop next trace))) (drop (next + 20) trace)
+  listed_on l = h.split ∙ rw (record_on a (place_as s.place) l) (regroup h.es (range there) kept _)
+
+  pub half_listed : {r : Standing} {after : List ℕ} {number : ℕ} → next < length trace → number ≡ number_at 2 2 (drop next trace) →
       place_as r.place ≡ record { from = there.from + there.run + 20; run = 0; expected = next_number number } → r.at ≡ next + 20 →
-      Adds (range there) s.filled now f ranged → e ≡ kept_at there number → Adds (e ∷ []) f ranged r.filled after → Half trace before r after
-  half_listed {number} l n p at ranges is stores =
-      let listed = h.es ++ range there in
-      record {
-        es = listed ++ (kept_at there number ∷ []);
-        split = h.split ∙ rw (record_on a (place_as s.place) l, at, p, n) (regroup h.es (range there) (kept_at there (number_at 2 2 (drop next trace)) ∷ []) _);
-        holds = rw is at (stores before listed (ranges before h.es h.holds));
-      }
+      Holds before (ranged ++ (kept_at there number ∷ [])) r.count after → Half trace before r after
+  half_listed {number} l n p at holds = record { es = ranged ++ kept; split = listed_on l ∙ rw (at, p, n); holds = rw n at holds }
+
+  -- .. or one of the two has no room
+  pub range_full : {after : List ℕ} {r : Refusal} → next < length trace → Stored before ranged (Err r) after → rescued_as (Err r) after ≡ rescue trace before
+  range_full l f = full_rescued trace f.0 (rw (listed_on l) (full_more (full_more f.1 kept) _))
+
+  pub kept_full : {after : List ℕ} {r : Refusal} {number : ℕ} → next < length trace → number ≡ number_at 2 2 (drop next trace) →
+      Stored before (ranged ++ (kept_at there number ∷ [])) (Err r) after → rescued_as (Err r) after ≡ rescue trace before
+  kept_full l n f = full_rescued trace f.0 (rw (listed_on l) (full_more (rw n at f.1) _))
 
 -- nothing is scanned yet
-pub all_ahead : (trace list : List ℕ) → Half trace list (record { at = 0; place = record { from = 0; run = 0; expected = 0 }; filled = record { count = 0; over = false } }) list
+pub all_ahead : (trace list : List ℕ) {s : Standing} → s.at ≡ 0 → s.place.from ≡ 0 → s.place.run ≡ 0 → s.place.expected ≡ 0 → s.count ≡ 0 → Half trace list s list
 unfolding entries entries_from
-all_ahead trace list = record { es = []; split = refl; holds = none_held list }
+all_ahead trace list at from run expected count = record { es = []; split = rw (at, from, run, expected); holds = rw count (none_held list) }
 
--- AT THE END
-
-module _ {before now : List ℕ} {f : Filled} where
-  -- entries behind one that did not fit change nothing
-  over_same : (es rest rest' : List Entry) → length before / 3 < length es → Holds before (es ++ rest) f now → Holds before (es ++ rest') f now
-  over_same es rest rest' l h =
-      let m = length before / 3 in
-      let same : fitting before (es ++ rest) ≡ fitting before (es ++ rest') = take-append-le m es rest (omega arith) ∙ sym (take-append-le m es rest' (omega arith)) in
-      let over = lt-ltb m (length (es ++ rest)) (omega (arith, length-append es rest)) in
-      record {
-        count = h.count ∙ ap length same;
-        over = h.over ∙ over ∙ sym (lt-ltb m (length (es ++ rest')) (omega (arith, length-append es rest')));
-        list = rw same at h.list;
-      }
-
-  -- the answer by whether all entries fit
-  answered : (trace : List ℕ) → Holds before (entries trace) f now → (over : Bool) → f.over ≡ over →
-      (if over then record { answer = refused 60; list = now } else record { answer = count f.count; list = now }) ≡ rescue trace before
-  unfolding rescue
-  answered trace h true e =
-      let o = sym h.over ∙ e in
-      let full = length-take-le (length before / 3) (entries trace) (omega (arith, ltb-true (length before / 3) (length (entries trace)) o)) in
-      rw (o, h.list, full)
-  answered trace h false e =
-      let o = sym h.over ∙ e in
-      let all = take_all (length before / 3) (entries trace) (ltb-false (length before / 3) (length (entries trace)) o) in
-      rw (o, h.list, h.count, all)
-
--- the loop's test: it ends where the trace does, or where one entry did not fit
-pub why_ended : (at n : ℕ) (over : Bool) → at ≤ n → (ltb at n && not over) ≡ false → (at ≡ n) ⊎ (over ≡ true)
-why_ended at n true l h = inr refl
-why_ended at n false l h = inl (omega (arith, ltb-false at n (by (ltb at n) h)))
-  where
-    by : (b : Bool) → (b && true) ≡ false → b ≡ false
-    by true h = h
-    by false h = refl
-
--- all of the trace was scanned, or one entry did not fit
-pub all_listed : {trace before now after : List ℕ} {s : Standing} {f : Filled} → Half trace before s now → Adds (range (place_as s.place)) s.filled now f after →
-    (s.at ≡ length trace) ⊎ (s.filled.over ≡ true) → (over : Bool) → f.over ≡ over →
-    (if over then record { answer = refused 60; list = after } else record { answer = count f.count; list = after }) ≡ rescue trace before
+-- at the end only the bytes that were skipped are left
+pub none_ahead : {trace before now : List ℕ} {s : Standing} (h : Half trace before s now) → s.at ≡ length trace → entries trace ≡ h.es ++ range (place_as s.place)
 unfolding scan listed after entries_from
-all_listed {trace} {before} {after} {s} {f} h adds (inl e) =
-    answered {now = after} {f = f} trace (rw (h.split, e, drop-length trace) (adds before h.es h.holds))
-all_listed {trace} {before} {after} {s} {f} h adds (inr o) =
-    let l = ltb-true (length before / 3) (length h.es) (sym h.holds.over ∙ o) in
-    answered {now = after} {f = f} trace (rw h.split (over_same h.es (range (place_as s.place)) (entries_from (place_as s.place) (drop s.at trace)) l (adds before h.es h.holds)))
+none_ahead {trace} h e = h.split ∙ rw (e, drop-length trace)

@@ -12,7 +12,7 @@ ghost use Rattle.rescue_chunk.specs.Bridge.{range_text, kept_text, last_text, Sm
 use entry_text::Tally;
 use scan::Place;
 
-// What is written of a trace: "a line an entry", or "the kept records anew as a trace numbered from 0".
+// What is written of a trace: "a line an entry", or "the kept records anew as a trace numbered from 0". The caller of `rescue_chunk` says which at run time.
 #[derive(Clone, Copy)]
 pub enum Output {
     Entries,
@@ -21,17 +21,20 @@ pub enum Output {
 
 // ONE RECORD
 
+#[tactic(auto, unfolding(model::specs::RescueText::tally))]
 fn tally_range(t: Tally, place: Place) -> Tally
     requires small { Small place t }
     requires run_bound { place.from + place.run + 20 < 2 ^ 64 }
     ensures { tally_as result ≡ tally (tally_as t) (range (place_as place)) }
 {
     if place.run == 0 {
-        return t;
+        t
+    } else {
+        t.with(place.range())
     }
-    t.with(place.range())
 }
 
+#[tactic(auto, using(crate::specs::Laws::no_range), unfolding(model::specs::RescueText::entry_lines))]
 fn write_range(output: Output, place: Place, out: &mut [u8], end: usize) -> usize
     requires { end + 51 ≤ length out.old }
     ensures written { Written out.old end (range_text output (place_as place)) result out.new }
@@ -46,44 +49,38 @@ fn write_range(output: Output, place: Place, out: &mut [u8], end: usize) -> usiz
     }
 }
 
-fn write_kept(
-    output: Output,
-    place: Place,
-    count: u64,
-    bytes: &[u8],
-    out: &mut [u8],
-    end: usize,
-) -> usize
-    requires in_bounds { 20 ≤ length bytes.now }
-    requires run_bound { place.from + place.run < 2 ^ 64 }
-    requires end_in_bounds { end + 51 ≤ length out.old }
-    ensures written { Written out.old end (kept_text output (place_as place) count bytes.now) result out.new }
-    ensures upper_bound { result ≤ end + 51 }
-{
-    match output {
-        Output::Entries => {
-            let number = trace::record_number(bytes);
-            entry_text::write_entry(out, end, place.kept(number))
-        }
-        Output::Records => {
-            // There is room, so it answers the next number, which the count gives too.
-            trace::write_record(
-                convert::number_after(count),
-                trace::access_of(bytes),
-                &mut out[end..],
-            );
-            end + 20
-        }
-    }
-}
-
 // Where the rescue of a chunk stands: the bytes before `at` are passed, the output ends at `end`; the scan's place, and the entries that were listed.
-#[derive(Clone, Copy)]
+#[derive(Clone, Copy, Default)]
 pub struct Rescued {
     pub at: usize,
     pub end: usize,
     pub place: Place,
     pub tally: Tally,
+}
+
+// The record at the start of the bytes, which stands where the scan does.
+fn write_kept(output: Output, bytes: &[u8], out: &mut [u8], s: Rescued) -> usize
+    requires in_bounds { 20 ≤ length bytes.now }
+    requires run_bound { s.place.from + s.place.run < 2 ^ 64 }
+    requires end_in_bounds { s.end + 51 ≤ length out.old }
+    ensures written { Written out.old s.end (kept_text output (place_as s.place) s.tally.kept bytes.now) result out.new }
+    ensures upper_bound { result ≤ s.end + 51 }
+{
+    match output {
+        Output::Entries => {
+            let number = trace::record_number(bytes);
+            entry_text::write_entry(out, s.end, s.place.kept(number))
+        }
+        Output::Records => {
+            // There is room, so it answers the next number, which the count gives too.
+            let _ = trace::write_record(
+                convert::number_after(s.tally.kept),
+                trace::access_of(bytes),
+                &mut out[s.end..],
+            );
+            s.end + 20
+        }
+    }
 }
 
 // Writes the record at the start of the bytes, and before it what was skipped.
@@ -95,19 +92,17 @@ fn write_found(output: Output, bytes: &[u8], out: &mut [u8], s: Rescued) -> Resc
     ensures wrote { Wrote output (kept_first bytes.now ∷ []) s out.old result out.new }
     ensures further { Further s result }
 {
-    let place = s.place;
-    let before = s.tally;
+    let ranged = Rescued {
+        end: write_range(output, s.place, out, s.end),
+        tally: tally_range(s.tally, s.place),
+        ..s
+    };
     let number = trace::record_number(bytes);
-    let ranged = tally_range(before, place);
-    let middle = write_range(output, place, out, s.end);
-    let end = write_kept(output, place, ranged.kept, bytes, out, middle);
-    let tally = ranged.with(place.kept(number));
-    let behind = place.keep(number);
     Rescued {
         at: s.at + 20,
-        end: end,
-        place: behind,
-        tally: tally,
+        end: write_kept(output, bytes, out, ranged),
+        place: s.place.keep(number),
+        tally: ranged.tally.with(s.place.kept(number)),
     }
 }
 
@@ -119,7 +114,7 @@ fn places(size: usize, least: usize) -> usize
     ensures value { result ≡ size + 1 - least }
     ensures upper_bound { result ≤ size }
 {
-    if size < least { 0 } else { size - least + 1 }
+    size.saturating_sub(least - 1)
 }
 
 // Goes on to the next record and writes it, or to the last place that is looked at.
@@ -132,13 +127,10 @@ fn write_next(output: Output, input: &[u8], to: usize, out: &mut [u8], s: Rescue
     ensures further { Further s result × (result.at ≤ length input.now) }
 {
     let next = scan::next_record(input, s.at, to);
-    let place = s.place.skip(next - s.at);
-    let tally = s.tally;
     let skipped = Rescued {
         at: next,
-        end: s.end,
-        place: place,
-        tally: tally,
+        place: s.place.skip(next - s.at),
+        ..s
     };
     if next == to {
         return skipped;
@@ -165,9 +157,10 @@ pub fn rescue_chunk(
     let mut s = Rescued {
         at: 0,
         end: 0,
-        place: place,
-        tally: tally,
+        place,
+        tally,
     };
+    // From record to record.
     while s.at < to {
         s = write_next(output, input, to, out, s);
     }

@@ -1,27 +1,26 @@
 -- What the two programs promise between their calls of the C library: which output stands ready to be written, for the bytes that the buffers hold;
 -- that there are chunks whose scan leads to where it ended; and what closes the output.
-use Rattle.std.specs.Prelude.{◌≡◌, Bool, true, false, not, ◌||◌, ℕ, ◌+◌, ◌≤◌, length, take, drop, if◌then◌else◌}
+use Rattle.std.specs.Prelude.{◌≡◌, Bool, true, false, ℕ, ◌+◌, ◌≤◌, length, take, drop, if◌then◌else◌}
 use mathlib.Core.List.{List, [], ◌++◌, flatten}
 use Rattle.std.proofs.lemmas.List.Edits.{sets}
 use Rattle.model.specs.Rescue.{Move, scan, moves, Place, beginning, listed, after, sizes}
 use Rattle.model.specs.RescueText.{Tally, none, tally}
-use Rattle.report.specs.Bridge.{failed_text}
-use Rattle.stream.specs.Bridge.{chunk_bytes, least_of, goes_on, broke_off}
+use Rattle.stream.specs.declared.Turn as turns
+use Rattle.stream.specs.Bridge as stream
+use Rattle.stream.specs.Bridge.{chunk_bytes, least_of, goes_on, broke_off, fault_text}
 use Rattle.scan.specs.Bridge.{place_as}
 use Rattle.entry_text.specs.Bridge.{tally_as}
 use Rattle.rescue_chunk.specs.declared.Output.{Output}
+use Rattle.rescue_chunk.specs.declared.Rescued.{Rescued}
 use Rattle.rescue_chunk.specs.Bridge.{output_of, last_text, Small}
-use Rattle.rescuer.specs.declared.Turn.{Turn}
 
--- before the first chunk: nothing is read, nothing failed, and more is to be read
+-- how a chunk went, with where its rescue stands
+abbrev pub Turn : Type 0
+Turn = turns.Turn Rescued
+
+-- before the first chunk
 abbrev pub first_turn : Turn
-first_turn = record {
-  chunk = record { size = 0; cut = false };
-  rescued = record { at = 0; end = 0; place = record { from = 0; run = 0; expected = 0 }; tally = record { kept = 0; doubtful = 0; skipped = 0 } };
-  lost = false;
-  told = 0;
-  more = true;
-}
+first_turn = stream.first_turn (record { at = 0; end = 0; place = record { from = 0; run = 0; expected = 0 }; tally = record { kept = 0; doubtful = 0; skipped = 0 } })
 
 -- Where a rescue stands: the scan's place, the entries counted, and the bytes that wait for more.
 pub record Stood : Type 0 where
@@ -31,17 +30,17 @@ pub record Stood : Type 0 where
 
 abbrev pub stood_at : Turn → (input : List ℕ) → Stood
 stood_at turn input = record {
-  place = place_as turn.rescued.place;
-  tally = tally_as turn.rescued.tally;
-  left = drop turn.rescued.at (take turn.chunk.size input);
+  place = place_as turn.work.place;
+  tally = tally_as turn.work.tally;
+  left = drop turn.work.at (take turn.chunk.size input);
 }
 
 -- A turn behind which more is read.
 pub record Going (turn : Turn) : Type 0 where
   pub more : turn.more ≡ true
-  pub at : turn.rescued.at ≤ turn.chunk.size
+  pub at : turn.work.at ≤ turn.chunk.size
   pub size : turn.chunk.size ≤ chunk_bytes
-  pub small : Small turn.rescued.place turn.rescued.tally
+  pub small : Small turn.work.place turn.work.tally
 
 -- A CHUNK, from where the rescue stood
 
@@ -56,16 +55,16 @@ moves_of before turn input = scan (least_of turn.chunk 20) 0 (before.left ++ byt
 -- The output that the output buffer holds, and where the rescue stands then, are those of the bytes read behind those that were left.
 pub record Turned (output : Output) (before : Stood) (turn : Turn) (input out : List ℕ) : Type 0 where
   pub size : turn.chunk.size ≤ chunk_bytes
-  pub at : turn.rescued.at ≤ turn.chunk.size
+  pub at : turn.work.at ≤ turn.chunk.size
   pub kept : take turn.chunk.size input ≡ before.left ++ bytes_of before turn input
-  pub text : take turn.rescued.end out ≡ output_of output before.place before.tally.kept (moves_of before turn input)
-  pub end : turn.rescued.end ≡ length (output_of output before.place before.tally.kept (moves_of before turn input))
-  pub place : place_as turn.rescued.place ≡ after before.place (moves_of before turn input)
-  pub tally : tally_as turn.rescued.tally ≡ tally before.tally (listed before.place (moves_of before turn input))
-  pub passed : turn.rescued.at ≡ sizes (moves_of before turn input)
-  pub small : Small turn.rescued.place turn.rescued.tally
+  pub text : take turn.work.end out ≡ output_of output before.place before.tally.kept (moves_of before turn input)
+  pub end : turn.work.end ≡ length (output_of output before.place before.tally.kept (moves_of before turn input))
+  pub place : place_as turn.work.place ≡ after before.place (moves_of before turn input)
+  pub tally : tally_as turn.work.tally ≡ tally before.tally (listed before.place (moves_of before turn input))
+  pub passed : turn.work.at ≡ sizes (moves_of before turn input)
+  pub small : Small turn.work.place turn.work.tally
   -- the records to be told of: where the write failed, those before the chunk, which are surely written
-  pub told : turn.told ≡ (if turn.lost then before.tally.kept else turn.rescued.tally.kept)
+  pub told : turn.told ≡ (if turn.lost then before.tally.kept else turn.work.tally.kept)
   pub more : turn.more ≡ goes_on turn.chunk false turn.lost
 
 -- ALL CHUNKS
@@ -83,6 +82,14 @@ pub record Reached (number : ℕ) (now : Stood) : Type 0 where
   pub place : now.place ≡ after beginning done
   pub tally : now.tally ≡ tally none (listed beginning done)
 
+-- The last of so many chunks stands behind others.
+pub record Last (output : Output) (number : ℕ) (turn : Turn) (input out : List ℕ) : Type 0 where
+  pub before : ℕ
+  pub counted : before + 1 ≡ number
+  pub stood : Stood
+  pub reached : Reached before stood
+  pub last : Turned output stood turn input out
+
 -- The last chunk stands behind others. Nothing more is to be read, or all chunks that may be have been.
 pub record Ended (output : Output) (turn : Turn) (input out : List ℕ) : Type 0 where
   pub before : ℕ
@@ -95,13 +102,7 @@ pub record Ended (output : Output) (turn : Turn) (input out : List ℕ) : Type 0
 
 abbrev pub closing_text : Output → Turn → List ℕ
 closing_text output turn =
-    if broke_off turn.chunk turn.lost turn.more then [] else last_text output (place_as turn.rescued.place) (tally_as turn.rescued.tally)
-
--- what standard error gets: that writing failed, or else that reading did. `unclosed`: what closes the output could not be written
-abbrev pub fault_text : Turn → (unclosed : Bool) → List ℕ
-fault_text turn unclosed =
-    let lost = turn.lost || unclosed in
-    if broke_off turn.chunk lost turn.more then failed_text (not lost) turn.told else []
+    if broke_off turn.chunk turn.lost turn.more then [] else last_text output (place_as turn.work.place) (tally_as turn.work.tally)
 
 -- What is stored to be written at the end, each at the buffer's start: first what closes the output, then what standard error gets.
 pub record Closed (output : Output) (turn : Turn) (before after' : List ℕ) : Type 0 where

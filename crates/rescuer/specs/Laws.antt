@@ -15,17 +15,16 @@ use Rattle.stream.specs.Laws.{kept_front, more_is, end_is}
 use Rattle.rescue_chunk.specs.declared.Output.{Output}
 use Rattle.rescue_chunk.specs.Bridge.{output_of, whole_of, ChunkRescued}
 use Rattle.rescue_chunk.specs.Laws.{outputs_append, tally_append, whole_is}
-use Rattle.rescuer.specs.declared.Turn.{Turn}
-use Rattle.rescuer.specs.Bridge.{first_turn, Stood, stood_at, Going, bytes_of, moves_of, Turned, Reached, Ended, closing_text}
+use Rattle.rescuer.specs.Bridge.{Turn, first_turn, Stood, stood_at, Going, bytes_of, moves_of, Turned, most_chunks, Reached, Last, Ended, closing_text}
 
 -- A CHUNK
 
 pub rescued : (output : Output) {last turn : Turn} {entry kept input before out : List ℕ} {n least size : ℕ} → Going last →
     length kept ≡ chunk_bytes → length input ≡ chunk_bytes →
-    Keeps entry last.rescued.at last.chunk.size n kept → Reads kept n turn.chunk input →
+    Keeps entry last.work.at last.chunk.size n kept → Reads kept n turn.chunk input →
     size ≡ turn.chunk.size → least ≡ least_of turn.chunk 20 →
-    ChunkRescued output least last.rescued.place last.rescued.tally (take (size - 0) input) before turn.rescued out →
-    turn.told ≡ (if turn.lost then last.rescued.tally.kept else turn.rescued.tally.kept) →
+    ChunkRescued output least last.work.place last.work.tally (take (size - 0) input) before turn.work out →
+    turn.told ≡ (if turn.lost then last.work.tally.kept else turn.work.tally.kept) →
     turn.more ≡ goes_on turn.chunk false turn.lost →
     Turned output (stood_at last entry) turn input out
 rescued output {last} {turn} {entry} {kept} {input} {n} g hk hi k r es el c t m =
@@ -78,7 +77,7 @@ module _ {output : Output} {before : Stood} {turn : Turn} {input out : List ℕ}
       let all : List ℕ = before.left ++ bytes in
       let ms : List Move = scan 20 0 all in
       let full : moves_of before turn input ≡ ms = rw is.0 in
-      let left : (stood_at turn input).left ≡ left_of 20 all = ap (drop turn.rescued.at) t.kept ∙ ap (λ (n : ℕ). drop n all) (t.passed ∙ ap sizes full) in
+      let left : (stood_at turn input).left ≡ left_of 20 all = ap (drop turn.work.at) t.kept ∙ ap (λ (n : ℕ). drop n all) (t.passed ∙ ap sizes full) in
       record {
         chunks = r.chunks ++ (bytes ∷ []);
         counted = omega (arith, length-append r.chunks (bytes ∷ []), r.counted);
@@ -88,6 +87,10 @@ module _ {output : Output} {before : Stood} {turn : Turn} {input out : List ℕ}
         place = t.place ∙ rw (full, r.place, after_append beginning r.done ms);
         tally = t.tally ∙ rw (full, r.place, r.tally, listed_append beginning r.done ms, tally_append none (listed beginning r.done) (listed (after beginning r.done) ms));
       }
+
+-- the last chunk is where the loop ended
+pub ended : {output : Output} {k : ℕ} {turn : Turn} {input out : List ℕ} → Last output k turn input out → (turn.more ≡ true → k ≡ most_chunks) → Ended output turn input out
+ended l b = record { before = l.before; stood = l.stood; reached = l.reached; last = l.last; bound = λ m. l.counted ∙ b m }
 
 -- A RESCUE THAT DID NOT BREAK OFF
 
@@ -102,7 +105,7 @@ module _ {output : Output} {turn : Turn} {input out : List ℕ} (e : Ended outpu
 
   -- The output of the chunks before the last, by definition, that of the last in the buffer and what closes it are the output of the whole trace.
   pub output_whole :
-      (output_of output beginning 0 e.reached.done ++ take turn.rescued.end out) ++ closing_text output turn
+      (output_of output beginning 0 e.reached.done ++ take turn.work.end out) ++ closing_text output turn
       ≡ whole_of output (flatten e.reached.chunks ++ bytes_of e.stood turn input)
   output_whole =
       let s : Stood = e.stood in

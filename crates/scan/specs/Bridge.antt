@@ -1,5 +1,5 @@
 -- What contracts of scan cite: entries and places as the model's, and what lies between a place and the next record.
-use Rattle.std.specs.Prelude.{◌≡◌, true, false, List, ◌++◌, ℕ, ◌+◌, ◌-◌, ◌≤◌, ◌<◌, length, drop, replicate}
+use Rattle.std.specs.Prelude.{◌≡◌, true, false, List, ◌++◌, ℕ, ◌+◌, ◌-◌, ◌≤◌, ◌<◌, length, drop, replicate, Option, Some, None}
 use Rattle.model.specs.Rescue as model
 use Rattle.model.specs.Rescue.{stands, skip, scan}
 use Rattle.scan.specs.declared.Entry.{Entry}
@@ -20,11 +20,10 @@ pub record Whole (size to whole : ℕ) : Type 0 where
   pub enough : (place : ℕ) → place < whole → place + 20 ≤ size
   pub others : (place : ℕ) → whole ≤ place → place < to → size < place + 20
 
--- no record stands at a place before `found`, and one at `found` where that is among the places
-pub record FirstOf (bytes : List ℕ) (places found : ℕ) : Type 0 where
-  pub within : found ≤ places
-  pub none : (place : ℕ) → place < found → stands (drop place bytes) ≡ false
-  pub there : found < places → stands (drop found bytes) ≡ true
+-- the first of so many places where a record stands, or none of them
+abbrev pub FirstOf : (bytes : List ℕ) → (places : ℕ) → (found : Option ℕ) → Type 0
+FirstOf bytes places (Some found) = (found < places) × (stands (drop found bytes) ≡ true) × ((place : ℕ) → place < found → stands (drop place bytes) ≡ false)
+FirstOf bytes places None = (place : ℕ) → place < places → stands (drop place bytes) ≡ false
 
 -- From a place on the scan skips the bytes up to the next one, `next`; before `to` a record stands there. (The scan looks at a place where at least
 -- `least` bytes are left.)

@@ -6,7 +6,7 @@ ghost use Rattle.model.specs.Settings.{zero_settings, settings_pass, lengths_fit
 ghost use Rattle.settings.specs.Bridge.{settings_as};
 
 // "Window base, window length, and a target-abort range given as two offsets lo and hi (lo included, hi not)."
-#[derive(Clone, Copy)]
+#[derive(Clone, Copy, Default)]
 pub struct Settings {
     pub base: u32,
     pub length: u32,
@@ -19,12 +19,7 @@ impl Settings {
     pub fn zero() -> Settings
         ensures { settings_as result ≡ zero_settings }
     {
-        Settings {
-            base: 0,
-            length: 0,
-            lo: 0,
-            hi: 0,
-        }
+        Settings::default()
     }
 
     // "They pass if all are multiples of 4, length is at most 65,536, base + length is at most 4,294,967,296, and lo <= hi <= length."
@@ -33,12 +28,13 @@ impl Settings {
     {
         let end = self.base as u64 + self.length as u64;
         (self.base % 4 == 0)
-            & ((self.length % 4 == 0)
-                & ((self.lo % 4 == 0)
-                    & ((self.hi % 4 == 0)
-                        & ((self.length <= 65536)
-                            & ((end <= access::PCI_LENGTH)
-                                & ((self.lo <= self.hi) & (self.hi <= self.length)))))))
+            & (self.length % 4 == 0)
+            & (self.lo % 4 == 0)
+            & (self.hi % 4 == 0)
+            & (self.length <= 65536)
+            & (end <= access::PCI_LENGTH)
+            & (self.lo <= self.hi)
+            & (self.hi <= self.length)
     }
 
     // The contrary of "shared memory not 16,384 bytes, or window not of the set length", by the memories' lengths.

@@ -1,6 +1,6 @@
 -- A request for a source: its checks as the code groups them, and by its refusal the part that it gets, which lies in its memory.
-use Rattle.std.specs.Prelude.{◌≡◌, refl, Bool, not, ◌&&◌, List, [], ◌∷◌, ◌++◌, ℕ, zero, suc, ◌+◌, ◌-◌, ◌≤◌, eqb, length, if◌then◌else◌}
-use Rattle.std.proofs.Common.{sym, ◌∙◌, arith, lit<}
+use Rattle.std.specs.Prelude.{◌≡◌, refl, ⊤, Bool, true, false, not, ◌&&◌, List, [], ◌∷◌, ◌++◌, ℕ, zero, suc, ◌+◌, ◌-◌, ◌≤◌, ◌<◌, eqb, length, Result, Ok, Err, is_err, if◌then◌else◌}
+use Rattle.std.proofs.Common.{ap, sym, ◌∙◌, arith, lit<}
 use Rattle.std.proofs.Math.Dec.{eqb-suc-zero}
 use borrow.Author.Tests.{eqb-true, ne_eqb, not-false}
 use Rattle.model.specs.Checks.{◌for◌, refusal, above, misplaced, shared_length, pci_length}
@@ -11,6 +11,10 @@ use Rattle.model.proofs.TestLaws.{and_left, and_right, or_left}
 use Rattle.model.proofs.CheckLaws.{refusal_append}
 use Rattle.model.proofs.CauseLaws.{placed}
 use Rattle.model.proofs.SourceLaws.{source_passed}
+use Rattle.access.specs.declared.Refusal.{Refusal}
+use Rattle.access.specs.declared.Refusal.TheVariants as refusals
+use Rattle.access.specs.Bridge.{number_of, refusal_as, refused_when}
+use Rattle.access.specs.Laws.{number_positive}
 
 -- THE CHECKS
 
@@ -36,12 +40,52 @@ pub row_is : (s : Settings) (m w : List ℕ) (t : Request) (pass fit outside : B
     ≡ refusal (source_checks s m w t)
 row_is s m w t pass fit outside n a b c d = rw (a, b, d, leaves_by s t.direction t.pci t.size, then_source t _ n c)
 
+-- a check that let pass had no cause
+passed_when : (r : Refusal) (cause : Bool) → Ok tt ≡ refused_when r cause → cause ≡ false
+passed_when r true e = absurd (let h = number_positive r in let z = ap (λ (c : Result ⊤ Refusal). refusal_as c) e in omega (arith, h, z))
+passed_when r false e = refl
+
+past_both : (x y : Bool) (n : ℕ) → x ≡ false → y ≡ false → n ≡ (if x then 1 else if y then 4 else n)
+past_both x y n p q = rw (p, q) refl
+
+-- past causes 1 and 4, by what the request's own checks gave
+module _ (s : Settings) (m w : List ℕ) (t : Request) (pass fit outside : Bool) (a : pass ≡ settings_pass s) (b : fit ≡ lengths_fit s m w) (d : outside ≡ outside_window s t.pci t.size)
+    (fits : Ok tt ≡ refused_when refusals.Unfit (not (pass && fit))) (either : Ok tt ≡ refused_when refusals.Selector (above 1 t.direction)) (checked : Result ⊤ Refusal)
+    (c : refusal_as checked ≡ refusal (request_checks t)) where
+  past_direction : (if not (eqb (refusal_as checked) 0) then refusal_as checked else if eqb t.direction 0 && outside then 9 else 0) ≡ refusal (source_checks s m w t)
+  past_direction =
+      past_both (not (pass && fit)) (above 1 t.direction) _ (passed_when refusals.Unfit (not (pass && fit)) fits) (passed_when refusals.Selector (above 1 t.direction) either)
+      ∙ row_is s m w t pass fit outside (refusal_as checked) a b c d
+
+  pub request_refused : {r : Refusal} → checked ≡ Err r → number_of r ≡ refusal (source_checks s m w t)
+  request_refused {r} e = by (number_of r) (number_positive r) ∙ (rw e at past_direction)
+    where
+      by : (n : ℕ) → 0 < n → n ≡ (if not (eqb n 0) then n else if eqb t.direction 0 && outside then 9 else 0)
+      by zero h = absurd (omega (arith, h))
+      by (suc n) h = rw (eqb-suc-zero n)
+
+  pub request_passed : checked ≡ Ok tt → refusal_as (refused_when refusals.Address (eqb t.direction 0 && outside)) ≡ refusal (source_checks s m w t)
+  request_passed e = by (eqb t.direction 0 && outside) ∙ (rw e at past_direction)
+    where
+      by : (leaves : Bool) → refusal_as (refused_when refusals.Address leaves) ≡ (if leaves then 9 else 0)
+      by true = refl
+      by false = refl
+
 -- BY REFUSAL
 
 part_shared : (s : Settings) (direction shared pci size : ℕ) → (direction ≡ 0 → ⊥) →
     source_part s direction shared pci size ≡ record { memory = shared_memory; offset = shared; count = size }
 part_shared s zero shared pci size d = absurd (d refl)
 part_shared s (suc n) shared pci size d = refl
+
+-- a row of checks that let all pass, and one that did not, by the number that it gives
+pub passed_number : (c : Result ⊤ Refusal) → is_err c ≡ false → refusal_as c ≡ 0
+passed_number (Ok x) e = refl
+passed_number (Err r) e = absurd (let z = ap {B = ℕ} (λ (b : Bool). if b then 1 else 0) e in omega (arith, z))
+
+pub refused_number : (c : Result ⊤ Refusal) → is_err c ≡ true → refusal_as c ≡ 0 → ⊥
+refused_number (Ok x) e z = let z = ap {B = ℕ} (λ (b : Bool). if b then 1 else 0) e in omega (arith, z)
+refused_number (Err r) e z = let h = number_positive r in omega (arith, h, z)
 
 -- a request with the refusal `number`
 pub record Cases (s : Settings) (shared window : List ℕ) (t : Request) (number : ℕ) : Type 0 where

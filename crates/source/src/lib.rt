@@ -1,38 +1,29 @@
 // "A transfer's source bytes as a part of whichever memory holds them, not a copy."
 #![tactic(auto)]
 
-ghost use Rattle.std.specs.Prelude.{◌≡◌, List, ℕ, length};
+ghost use Rattle.std.specs.Prelude.{◌≡◌};
 ghost use Rattle.model.specs.Checks.{refusal};
 ghost use Rattle.model.specs.Transfer.{request_of};
 ghost use Rattle.model.specs.Source.{source_checks, source};
+ghost use Rattle.access.specs.Bridge.{refusal_as};
 ghost use Rattle.settings.specs.Bridge.{settings_as};
 ghost use Rattle.transfer.specs.Bridge.{request_as};
 ghost use Rattle.source.specs.Bridge.{lent_part};
 
+use access::Refusal;
 use settings::Settings;
 use transfer::Request;
 
-// "Any of causes 1, 4, 7, 8, 9 refuses .. here 9 also covers a window source not wholly in the window": the smallest, else 0. `shared` and
-// `window` are the memories' lengths.
-fn refusal_of(settings: Settings, request: Request, shared: usize, window: usize) -> u8
-    ensures { (m w : List ℕ) → shared ≡ length m → window ≡ length w → result ≡ refusal (source_checks (settings_as settings) m w (request_as request)) }
+// "Any of causes 1, 4, 7, 8, 9 refuses .. here 9 also covers a window source not wholly in the window."
+fn checks(settings: Settings, request: Request, shared: &[u8], window: &[u8]) -> Result<(), Refusal>
+    ensures { refusal_as result ≡ refusal (source_checks (settings_as settings) shared.now window.now (request_as request)) }
 {
-    let fit = settings.pass() & settings.lengths_fit(shared, window);
+    let fit = settings.pass() & settings.lengths_fit(shared.len(), window.len());
     let outside = settings.outside_window(request.pci, request.size);
-    let number = request.refusal();
-    access::when(
-        access::UNFIT,
-        !fit,
-        access::when(
-            access::SELECTOR,
-            1 < request.direction,
-            access::when(
-                number,
-                number != 0,
-                access::when(access::ADDRESS, (request.direction == 0) & outside, 0),
-            ),
-        ),
-    )
+    Refusal::Unfit.when(!fit)?;
+    Refusal::Selector.when(1 < request.direction)?;
+    request.checks()?;
+    Refusal::Address.when((request.direction == 0) & outside)
 }
 
 // The part of shared memory or of the window, chosen by the direction. "A refusal gives the empty part at the start of shared memory."
@@ -49,13 +40,12 @@ pub fn source<'a>(
         ≡ lent_part shared.entry window.entry (source (settings_as settings) shared.now window.now (request_of direction a b c)) }
 {
     let request = Request {
-        direction: direction,
+        direction,
         shared: a,
         pci: b,
         size: c,
     };
-    let number = refusal_of(settings, request, shared.len(), window.len());
-    if number != 0 {
+    if checks(settings, request, shared, window).is_err() {
         return &shared[0..0];
     }
     let count = c as usize;

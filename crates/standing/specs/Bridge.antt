@@ -1,5 +1,5 @@
 -- Where the code's replay stands, in the model's words.
-use Rattle.std.specs.Prelude.{List, ℕ, replicate}
+use Rattle.std.specs.Prelude.{List, ℕ}
 use Rattle.model.specs.Accesses as words
 use Rattle.model.specs.Accesses.{access}
 use Rattle.model.specs.Replay.{moved_on}
@@ -23,7 +23,3 @@ performed s q = let o = access s.world q in record { answer = o.answer; standing
 
 abbrev pub performed_as : Performed → (shared window : List ℕ) → PerformedOn
 performed_as p shared window = record { answer = answer_as p.answer; standing = standing_as p.standing shared window }
-
--- a zeroed memory
-unfoldable pub zeros : ℕ → List ℕ
-zeros n = replicate n 0

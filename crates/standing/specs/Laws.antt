@@ -1,6 +1,6 @@
 -- Where a replay starts, and a record done, by what the card gave.
-use Rattle.std.specs.Prelude.{◌≡◌, false, List, [], ℕ, ◌+◌}
-use Rattle.std.proofs.Common.{ap}
+use Rattle.std.specs.Prelude.{◌≡◌, refl, false, Result, Ok, Err, IsOk, List, [], ℕ, ◌+◌}
+use Rattle.std.proofs.Common.{ap, arith}
 use Rattle.model.specs.State.{NewCard, fresh_card}
 use Rattle.model.specs.Accesses as words
 use Rattle.model.specs.Accesses.{access}
@@ -10,11 +10,19 @@ use Rattle.model.specs.Replay as model
 use Rattle.access.specs.declared.Access.{Access}
 use Rattle.access.specs.Bridge.{access_as, answer_as}
 use Rattle.card.specs.declared.Card.{Card}
+use Rattle.card.specs.declared.Unfit.{Unfit}
 use Rattle.card.specs.declared.Outcome.{Outcome}
-use Rattle.card.specs.Bridge.{state_as, world_as, outcome_as}
+use Rattle.card.specs.Bridge.{state_as, new_card_as, world_as, outcome_as}
+use Rattle.zeroed.specs.Bridge.{zeros}
 use Rattle.standing.specs.declared.Standing.{Standing}
 use Rattle.standing.specs.declared.Performed.{Performed}
-use Rattle.standing.specs.Bridge.{standing_as, performed, performed_as, zeros}
+use Rattle.standing.specs.Bridge.{standing_as, performed, performed_as}
+
+-- the replay's settings pass
+pub settings_fit : (r : Result Card Unfit) → new_card_as r ≡ fresh_card replay_settings → IsOk r
+unfolding fresh_card
+settings_fit (Ok card) e = refl
+settings_fit (Err unfit) e = absurd (omega (arith, ap (λ (m : NewCard). m.number) e))
 
 -- the fresh card of the replay's settings, between zeroed memories
 pub at_start : {n : ℕ} (card : Card) → record { number = n; card = state_as card } ≡ fresh_card replay_settings →

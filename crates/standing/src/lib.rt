@@ -4,13 +4,15 @@
 ghost use Rattle.std.specs.Prelude.{◌≡◌, List, ℕ, ◌+◌, ◌<◌, ◌^◌};
 ghost use Rattle.model.specs.Replay.{stop, replay_start};
 ghost use Rattle.access.specs.Bridge.{access_as};
-ghost use Rattle.standing.specs.Bridge.{standing_as, performed, performed_as, zeros};
+ghost use Rattle.zeroed.specs.Bridge.{zeros};
+ghost use Rattle.standing.specs.Bridge.{standing_as, performed, performed_as};
 
 use access::{Access, Answer};
 use card::Card;
 use settings::Settings;
 
-// Where a replay stands: the card, the record number expected, the records answered, and whether a refusal of the reader has stopped it.
+// Where a replay stands: the card, the record number expected, the records answered, and whether a refusal of the reader has stopped it, beside
+// which the others hold too.
 #[derive(Clone, Copy)]
 pub struct Standing {
     pub card: Card,
@@ -26,20 +28,7 @@ pub struct Performed {
     pub standing: Standing,
 }
 
-// "On zeroed memories": the shared memory, and the window.
-pub fn shared_memory() -> [u8; 16384]
-    ensures { result ≡ zeros 16384 }
-{
-    [0; 16384]
-}
-
-pub fn window_memory() -> [u8; 32768]
-    ensures { result ≡ zeros 32768 }
-{
-    [0; 32768]
-}
-
-// "Base 268,435,456, length 32,768, abort range 28,672 to 32,768"; "numbers start at 0".
+// "On zeroed memories", which `zeroed::bytes` makes; "base 268,435,456, length 32,768, abort range 28,672 to 32,768"; "numbers start at 0".
 pub fn start() -> Standing
     ensures { standing_as result (zeros 16384) (zeros 32768) ≡ replay_start }
 {
@@ -49,10 +38,9 @@ pub fn start() -> Standing
         lo: 28672,
         hi: 32768,
     };
-    let made = card::fresh(settings);
-    let card = made.card;
+    let card = card::fresh(settings).unwrap();
     Standing {
-        card: card,
+        card,
         expected: 0,
         count: 0,
         stopped: false,
@@ -65,19 +53,15 @@ impl Standing {
         requires { self.count + 1 < 2 ^ 64 }
         ensures { performed_as result shared.new window.new ≡ performed (standing_as self shared.old window.old) (access_as q) }
     {
-        let card = self.card;
-        let outcome = device::access(card, shared, window, q);
-        let left = outcome.card;
-        let answer = outcome.answer;
-        let standing = Standing {
-            card: left,
-            expected: trace::next_number(self.expected),
-            count: self.count + 1,
-            stopped: self.stopped,
-        };
+        let outcome = device::access(self.card, shared, window, q);
         Performed {
-            answer: answer,
-            standing: standing,
+            answer: outcome.answer,
+            standing: Standing {
+                card: outcome.card,
+                expected: trace::next_number(self.expected),
+                count: self.count + 1,
+                ..self
+            },
         }
     }
 
@@ -85,8 +69,9 @@ impl Standing {
     pub fn stop(self) -> Standing
         ensures { (m w : List ℕ) → standing_as result m w ≡ stop (standing_as self m w) }
     {
-        let mut standing = self;
-        standing.stopped = true;
-        standing
+        Standing {
+            stopped: true,
+            ..self
+        }
     }
 }

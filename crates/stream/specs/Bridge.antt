@@ -1,11 +1,9 @@
--- What a chunk of the input is, what is kept of the last, what of it is answered or turned, and how the program goes on.
-use Rattle.std.specs.Prelude.{◌≡◌, Bool, true, not, ◌&&◌, ◌||◌, List, ℕ, ◌-◌, ◌%◌, ◌<◌, ◌≤◌, length, take, drop, eqb, ℤ, pos, if◌then◌else◌}
-use Rattle.std.specs.Int.Signed.{lt_z}
+-- What a chunk of the input is, what is kept of the last, what of it is answered or turned, how the program goes on, and what standard error gets
+-- where something failed.
+use Rattle.std.specs.Prelude.{◌≡◌, Bool, true, false, not, ◌&&◌, ◌||◌, List, [], ℕ, ◌-◌, ◌%◌, ◌<◌, ◌≤◌, length, take, drop, eqb, if◌then◌else◌}
+use Rattle.report.specs.Bridge.{failed_text}
 use Rattle.stream.specs.declared.Chunk.{Chunk}
-
--- an answer below 0: 0 is the end of the input
-abbrev pub negative : ℤ → Bool
-negative got = lt_z got (pos 0)
+use Rattle.stream.specs.declared.Turn.{Turn}
 
 -- the bytes of a chunk from a place on stand at the start of the buffer
 pub record Keeps (before : List ℕ) (at size kept : ℕ) (after : List ℕ) : Type 0 where
@@ -39,3 +37,19 @@ goes_on chunk stopped lost = eqb chunk.size chunk_bytes && not stopped && not ch
 -- A write failed, or the input's end was not reached and no refusal ended it: a read failed, or more was to be read and no more may be.
 abbrev pub broke_off : Chunk → (lost more : Bool) → Bool
 broke_off chunk lost more = lost || more || chunk.cut
+
+-- before the first chunk: nothing is read, nothing failed, and more is to be read
+abbrev pub first_turn : {W : Type 0} → W → Turn W
+first_turn work = record { chunk = record { size = 0; cut = false }; work = work; lost = false; told = 0; more = true }
+
+-- what standard error gets: that writing failed, or else that reading did. `unclosed`: what closes the output could not be written
+abbrev pub fault_text : {W : Type 0} → Turn W → (unclosed : Bool) → List ℕ
+fault_text turn unclosed =
+    let lost = turn.lost || unclosed in
+    if broke_off turn.chunk lost turn.more then failed_text (not lost) turn.told else []
+
+-- What is known of a turn behind so many chunks: what holds where more is to be read, and what holds where there is a last chunk. Before the first more is.
+pub record Behind {W : Type 0} (number : ℕ) (turn : Turn W) (On Last : Type 0) : Type 0 where
+  pub on : turn.more ≡ true → On
+  pub first : number ≡ 0 → turn.more ≡ true
+  pub last : (number ≡ 0 → ⊥) → Last

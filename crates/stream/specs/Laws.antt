@@ -1,49 +1,23 @@
--- Bytes moved to the start of a buffer one by one, and bytes that stay while others are read behind them; and how a program goes on, by how a chunk went.
-use Rattle.std.specs.Prelude.{◌≡◌, refl, ◌⊎◌, Bool, true, false, not, ◌&&◌, ◌||◌, List, ◌++◌, ℕ, suc, ◌+◌, ◌-◌, ◌<◌, ◌≤◌, length, get_or, set, take, drop, eqb}
-use Rattle.std.proofs.Common.{sym, ap, ◌∙◌, inl, inr, add-zero, arith, add-one, length-drop, take-append-drop, length-take-le, take-suc, take-suc-set, take-take, take-add, drop_at, get_or-drop, drop-drop, drop-set-lt, eqb-true}
-use Rattle.std.proofs.lemmas.List.{take-append-le}
+-- Bytes moved to the start of a buffer, and bytes that stay while others are read behind them; and how a program goes on, by how a chunk went.
+use Rattle.std.specs.Prelude.{◌≡◌, refl, ◌⊎◌, Bool, true, false, not, ◌&&◌, ◌||◌, List, ◌++◌, ℕ, ◌+◌, ◌-◌, ◌<◌, ◌≤◌, length, take, drop, eqb}
+use Rattle.std.proofs.Common.{sym, ap, ◌∙◌, inl, inr, arith, length-drop, take-append-drop, length-take-le, take-take}
+use Rattle.std.proofs.lemmas.List.{take-append-le, drop-take}
+use Rattle.std.specs.List.{copy_within}
 use Rattle.std.proofs.lemmas.Bool.{eqb-false, not-true}
 use Rattle.model.proofs.TestLaws.{and_left, and_right, or_left, or_right, no_both}
 use Rattle.stream.specs.declared.Chunk.{Chunk}
-use Rattle.stream.specs.Bridge.{Keeps, chunk_bytes, goes_on, broke_off}
+use Rattle.stream.specs.declared.Turn.{Turn}
+use Rattle.stream.specs.Bridge.{Keeps, chunk_bytes, goes_on, broke_off, Behind}
 
 -- THE CARRY
 
--- `i` bytes stand at the start, and from the place of the next one on the buffer is as it was.
-pub record Half (before : List ℕ) (at i : ℕ) (now : List ℕ) : Type 0 where
-  pub moved : take i now ≡ take i (drop at before)
-  pub rest : drop (at + i) now ≡ drop (at + i) before
-
-pub none_yet : (before : List ℕ) (at : ℕ) → Half before at 0 before
-none_yet before at = record { moved = refl; rest = refl }
-
-head_drop : (l : List ℕ) (k : ℕ) → get_or (drop k l) 0 0 ≡ get_or l k 0
-head_drop l k = get_or-drop k l 0 0 ∙ ap (λ (j : ℕ). get_or l j 0) (add-zero k)
-
-pub one_more : (before now : List ℕ) (at i : ℕ) → at + i < length before → length now ≡ length before → Half before at i now →
-    Half before at (i + 1) (set now i (get_or now (at + i) 0))
-one_more before now at i h l m =
-    let v = get_or now (at + i) 0 in
-    let same : v ≡ get_or (drop at before) i 0 =
-    sym (head_drop now (at + i)) ∙ ap (λ (t : List ℕ). get_or t 0 0) m.rest ∙ head_drop before (at + i) ∙ sym (get_or-drop at before i 0)
-    in
-    let next : at + (i + 1) ≡ at + i + 1 = omega arith in
-    let more : take (suc i) (set now i v) ≡ take (suc i) (drop at before) =
-    take-suc-set now i v (omega arith) ∙ (rw (m.moved, same)) ∙ sym (take-suc (drop at before) i 0 (omega (arith, length-drop at before)))
-    in
-    record {
-      moved = rw add-one more;
-      rest = rw next (drop-set-lt (at + i + 1) now i v (omega arith) ∙ sym (drop-drop 1 (at + i) now) ∙ ap (drop 1) m.rest ∙ drop-drop 1 (at + i) before);
-    }
-
-pub all_moved : (before now : List ℕ) (at size : ℕ) → at ≤ size → size ≤ length before → Half before at (size - at) now → Keeps before at size (size - at) now
-all_moved before now at size h l m =
-    let sum : size ≡ at + (size - at) = omega arith in
-    let split = ap (λ (k : ℕ). take k before) sum ∙ take-add at (size - at) before in
-    record {
-      count = refl;
-      bytes = m.moved ∙ sym (ap (drop at) split ∙ drop_at (take at before) (take (size - at) (drop at before)) at (length-take-le at before (omega arith)));
-    }
+pub kept_is : (before after : List ℕ) (at size : ℕ) → at ≤ size → size ≤ length before → after ≡ copy_within before at size 0 → Keeps before at size (size - at) after
+kept_is before after at size h l e =
+    let n = size - at in
+    let sum : at + n ≡ size = omega arith in
+    let moved = take n (drop at before) in
+    let long : n ≤ length moved = omega (arith, length-take-le n (drop at before) (omega (arith, length-drop at before))) in
+    record { count = refl; bytes = rw e (take-append-le n moved _ long ∙ take-take n n (drop at before) (omega arith) ∙ sym (rw sum at (drop-take at n before))) }
 
 -- BYTES THAT STAY
 
@@ -88,11 +62,14 @@ end_is chunk stopped lost more l e h = by (why (eqb chunk.size chunk_bytes) stop
     by (inl f) = inl (omega (arith, eqb-false chunk.size chunk_bytes f))
     by (inr s) = inr s
 
--- WHEN THE LOOP OVER THE CHUNKS ENDS, of which at most so many are read. `on`: what a turn says, when it is asked whether it goes on
+-- A LOOP OVER THE CHUNKS, of which at most so many are read
 
-pub all_read : (most : ℕ) (more on : Bool) (k : ℕ) → on ≡ more → (not on || eqb k most) ≡ true → more ≡ true → k ≡ most
-all_read most more on k e h m = eqb-true k most (rw (e, m) at h)
+pub none_behind : {W On Last : Type 0} (turn : Turn W) → turn.more ≡ true → On → Behind 0 turn On Last
+none_behind turn m on = record { on = λ _. on; first = λ _. m; last = λ z. absurd (z refl) }
 
-pub goes_on_lem : (most : ℕ) (more on : Bool) (k : ℕ) → on ≡ more → (not on || eqb k most) ≡ false → k ≤ most → (more ≡ true) × (k < most)
-goes_on_lem most more true k e h l = (sym e, omega (arith, eqb-false k most h))
-goes_on_lem most more false k e h l = no_both (sym h)
+pub one_behind : {W On Last : Type 0} (k : ℕ) (turn : Turn W) → (turn.more ≡ true → On) → Last → Behind (k + 1) turn On Last
+one_behind k turn on last = record { on = on; first = λ z. absurd (omega arith); last = λ _. last }
+
+-- where it ends early, there is a last chunk
+pub ended_early : {W On Last : Type 0} {k : ℕ} {turn : Turn W} → Behind k turn On Last → turn.more ≡ false → Last
+ended_early b m = b.last (λ z. no_both (sym m ∙ b.first z))

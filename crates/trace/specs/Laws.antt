@@ -1,14 +1,14 @@
--- The number of a record beside the checks of what stands there: 22 is given after 20 and 21, and before 23; and a record stored part by part.
+-- The reader's answer by what the checks give, and the number of a record beside the checks of what stands there: 22 is given after 20 and 21, and before 23.
 use Rattle.std.specs.Prelude.{◌≡◌, ℕ, ◌+◌, ◌<◌, ◌≤◌, Bool, true, false, not, ◌&&◌, List, [], ◌∷◌, length, drop, ◌==◌, ◌≢◌, nat_eq, nat_lt, slice_index, slice_index_or, refl, if◌then◌else◌}
-use Rattle.std.proofs.Common.{ap, ◌∙◌, add-zero, arith, length-drop, get_or-drop, eq-eqb, eqb-true, le-ltb}
-use Rattle.std.proofs.lemmas.List.Edits.{sets, sets-eq}
+use Rattle.std.proofs.Common.{ap, ◌∙◌, add-zero, arith, length-drop, get_or-drop, eq-eqb, eqb-true, ne_eqb, le-ltb}
 use Rattle.model.specs.Checks.{◌for◌, refusal}
-use Rattle.model.specs.Lanes.{dword_of, write_dword}
-use Rattle.model.specs.Accesses.{Access}
-use Rattle.model.specs.Trace.{record_bytes, next_number, trace_checks, next, write_record}
-use Rattle.model.proofs.TraceLaws.{write_stores}
+use Rattle.model.specs.Lanes.{dword_of}
+use Rattle.model.specs.Trace.{trace_checks, access_at, recorded, refused, read_record}
 use Rattle.model.specs.Rescue.{stands}
-use Rattle.trace.specs.Bridge.{record_number, damage, head_bytes}
+use Rattle.access.specs.declared.Refusal.{Refusal}
+use Rattle.access.specs.Bridge.{number_of}
+use Rattle.access.specs.Laws.{number_positive}
+use Rattle.trace.specs.Bridge.{record_number, damage}
 
 abbrev given : (short unmarked unexpected nonzero : Bool) → ℕ
 given short unmarked unexpected nonzero = refusal (20 for short ∷ 21 for unmarked ∷ 22 for unexpected ∷ 23 for nonzero ∷ [])
@@ -49,11 +49,12 @@ module _ (bytes : List ℕ) (at : ℕ) (h : at + 20 ≤ length bytes) where
 
 -- THE WRITER
 
--- the bytes of a record stored in turn: the first eight, then A, B and C
-pub stored : (number : ℕ) (q : Access) (out : List ℕ) {n : ℕ} {head a b c : List ℕ} → 20 ≤ length out → head ≡ sets out 0 (head_bytes number q) →
-    a ≡ write_dword head 8 0 q.a → b ≡ write_dword a 12 0 q.b → c ≡ write_dword b 16 0 q.c → n ≡ next_number number →
-    record { answer = next n; buffer = c } ≡ write_record number q out
-unfolding write_dword
-stored number q out {c} h e ea eb ec m =
-    let all : c ≡ sets out 0 (record_bytes number q) = rw (ec, eb, ea, e) in
-    rw (all, m, write_stores number q out h, sets-eq (record_bytes number q) out 0 h)
+-- THE READER, by what the checks give: no refusal has the number 0
+
+pub refused_read : (bytes : List ℕ) (expected : ℕ) (r : Refusal) → number_of r ≡ refusal (trace_checks bytes expected) → refused (number_of r) ≡ read_record bytes expected
+unfolding read_record
+refused_read bytes expected r e = rw (← e, ne_eqb (number_of r) 0 (λ z. omega (arith, number_positive r, z)))
+
+pub recorded_read : (bytes : List ℕ) (expected : ℕ) → refusal (trace_checks bytes expected) ≡ 0 → recorded (access_at bytes) ≡ read_record bytes expected
+unfolding read_record
+recorded_read bytes expected e = rw e

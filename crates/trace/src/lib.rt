@@ -1,35 +1,19 @@
 // The record of 20 bytes: its reader, against the expected record number, and its writer.
 #![tactic(auto)]
 
-ghost use Rattle.std.specs.Prelude.{◌≡◌, ◌+◌, ◌≤◌, [], ◌∷◌, length, drop};
-ghost use Rattle.std.proofs.lemmas.List.Edits.{sets};
+ghost use Rattle.std.specs.Prelude.{◌≡◌, ◌+◌, ◌≤◌, length, drop};
 ghost use Rattle.model.specs.Checks.{refusal};
-ghost use Rattle.model.specs.Lanes.{dword_of};
-ghost use Rattle.model.specs.Trace.{number_at, trace_checks, access_at, read_record, next_number, write_record};
+ghost use Rattle.model.specs.Trace.{number_at, record_bytes, trace_checks, access_at, read_record, next_number, write_record};
 ghost use Rattle.model.specs.Rescue.{stands};
-ghost use Rattle.access.specs.Bridge.{access_as};
-ghost use Rattle.trace.specs.Bridge.{read_as, damage, head_bytes, wrote_as};
+ghost use Rattle.access.specs.Bridge.{access_as, refusal_as};
+ghost use Rattle.trace.specs.Bridge.{read_as, wrote_as};
 
-use access::Access;
-
-// "The trace reader answers a record or a refusal": the refusal's number alone.
-#[derive(Clone, Copy)]
-pub enum Read {
-    Record(Access),
-    Refused(u8),
-}
+use access::{Access, Refusal};
 
 // "Each record has 20 bytes", and begins with "the two-byte mark".
 const RECORD_LENGTH: usize = 20;
 
 const MARK: [u8; 2] = [0x42, 0x50];
-
-// The number of two bytes, "least byte first".
-fn number_of(low: u8, high: u8) -> u16
-    ensures { result ≡ dword_of (low ∷ high ∷ []) }
-{
-    low as u16 + 256 * (high as u16)
-}
 
 // The number of four bytes, "least byte first".
 fn number_at(bytes: &[u8], at: usize) -> u32
@@ -39,29 +23,13 @@ fn number_at(bytes: &[u8], at: usize) -> u32
     lanes::dword_of(lanes::bytes_at(bytes, at))
 }
 
-// Whether a whole record stands at the start of the bytes, whatever its number: 0, or cause 20, 21 or 23.
-fn damage(bytes: &[u8]) -> u8
-    ensures { result ≡ damage bytes.now }
-{
-    if bytes.len() < RECORD_LENGTH {
-        return access::SHORT_RECORD;
-    }
-    let marked = (bytes[0] == MARK[0]) & (bytes[1] == MARK[1]);
-    let nonzero = bytes[7] != 0;
-    access::when(
-        access::WRONG_MARK,
-        !marked,
-        access::when(access::ZERO_BYTE, nonzero, 0),
-    )
-}
-
 // "Where a whole record with mark and zero byte stands": at a place with 20 bytes from there on (document 02, L14). Both bytes of the mark are compared at
 // once: most places fail there.
 pub fn stands(bytes: &[u8], at: usize) -> bool
     requires { at + 20 ≤ length bytes.now }
     ensures { result ≡ stands (drop at bytes.now) }
 {
-    if number_of(bytes[at], bytes[at + 1]) != number_of(MARK[0], MARK[1]) {
+    if u16::from_le_bytes([bytes[at], bytes[at + 1]]) != u16::from_le_bytes(MARK) {
         return false;
     }
     bytes[at + 7] == 0
@@ -72,24 +40,17 @@ pub fn record_number(bytes: &[u8]) -> u16
     requires { 20 ≤ length bytes.now }
     ensures { result ≡ number_at 2 2 bytes.now }
 {
-    number_of(bytes[2], bytes[3])
+    u16::from_le_bytes([bytes[2], bytes[3]])
 }
 
-// "20 fewer than 20 bytes, 21 wrong mark, 22 unexpected record number, 23 byte 7 not zero, in that order"; else 0.
-fn refusal_of(bytes: &[u8], expected: u16) -> u8
-    ensures { result ≡ refusal (trace_checks bytes.now expected) }
+// "20 fewer than 20 bytes, 21 wrong mark, 22 unexpected record number, 23 byte 7 not zero, in that order".
+fn checks(bytes: &[u8], expected: u16) -> Result<(), Refusal>
+    ensures { refusal_as result ≡ refusal (trace_checks bytes.now expected) }
 {
-    let damage = damage(bytes);
-    if damage == access::SHORT_RECORD {
-        return damage;
-    }
-    let unmarked = damage == access::WRONG_MARK;
-    let unexpected = record_number(bytes) != expected;
-    access::when(
-        access::WRONG_MARK,
-        unmarked,
-        access::when(access::RECORD_NUMBER, unexpected, damage),
-    )
+    Refusal::ShortRecord.when(bytes.len() < RECORD_LENGTH)?;
+    Refusal::WrongMark.when([bytes[0], bytes[1]] != MARK)?;
+    Refusal::RecordNumber.when(record_number(bytes) != expected)?;
+    Refusal::ZeroByte.when(bytes[7] != 0)
 }
 
 // The access that a whole record says.
@@ -107,58 +68,41 @@ pub fn access_of(bytes: &[u8]) -> Access
     }
 }
 
-// Reads the first 20 bytes; what follows them is not looked at.
-pub fn read_record(bytes: &[u8], expected: u16) -> Read
+// "The trace reader answers a record or a refusal": it reads the first 20 bytes, and what follows them is not looked at.
+pub fn read_record(bytes: &[u8], expected: u16) -> Result<Access, Refusal>
     ensures { read_as result ≡ read_record bytes.now expected }
 {
-    let number = refusal_of(bytes, expected);
-    if number != 0 {
-        return Read::Refused(number);
-    }
-    Read::Record(access_of(bytes))
+    checks(bytes, expected)?;
+    Ok(access_of(bytes))
 }
 
 // "After 65,535 the record number starts again at 0."
 pub fn next_number(n: u16) -> u16
     ensures { result ≡ next_number n }
 {
+    // Document 01 orders the supplied wrapping add.
     std::num::wrapping_add_u16(n, 1)
 }
 
-// "It stores 20 bytes at the start of a lent buffer and answers the next number"; or the refusal's number alone.
-#[derive(Clone, Copy)]
-pub enum Write {
-    Next(u16),
-    Refused(u8),
-}
-
-// Mark, number, kind, side, S and the zero byte.
-fn write_head(number: u16, q: Access, out: &mut [u8])
-    requires { 8 ≤ length out.old }
-    ensures { out.new ≡ sets out.old 0 (head_bytes number (access_as q)) }
+// Mark, number, kind, side, S, the zero byte, A, B and C.
+fn record_bytes(number: u16, q: Access) -> [u8; 20]
+    ensures { result ≡ record_bytes number (access_as q) }
 {
-    out[0] = MARK[0];
-    out[1] = MARK[1];
-    out[2] = (number % 256) as u8;
-    out[3] = (number / 256 % 256) as u8;
-    out[4] = q.kind;
-    out[5] = q.side;
-    out[6] = q.s;
-    out[7] = 0;
+    let [low, high] = number.to_le_bytes();
+    let a = lanes::bytes_of(q.a);
+    let b = lanes::bytes_of(q.b);
+    let c = lanes::bytes_of(q.c);
+    [
+        MARK[0], MARK[1], low, high, q.kind, q.side, q.s, 0, a[0], a[1], a[2], a[3], b[0], b[1],
+        b[2], b[3], c[0], c[1], c[2], c[3],
+    ]
 }
 
-// Writes the record of an access with this number at the start of the buffer. "The rest of the buffer is untouched."
-pub fn write_record(number: u16, q: Access, out: &mut [u8]) -> Write
+// Writes the record of an access with this number at the start of the buffer, and "answers the next number". "The rest of the buffer is untouched."
+pub fn write_record(number: u16, q: Access, out: &mut [u8]) -> Result<u16, Refusal>
     ensures { wrote_as result out.new ≡ write_record number (access_as q) out.old }
 {
-    if out.len() < RECORD_LENGTH {
-        return Write::Refused(access::NO_ROOM);
-    }
-    write_head(number, q, out);
-    lanes::write_dword(out, 8, lanes::ALL_LANES, q.a);
-    lanes::write_dword(out, 12, lanes::ALL_LANES, q.b);
-    let last = RECORD_LENGTH - 4;
-    lanes::write_dword(out, last, lanes::ALL_LANES, q.c);
-    let next = next_number(number);
-    Write::Next(next)
+    Refusal::NoRoom.when(out.len() < RECORD_LENGTH)?;
+    out[..RECORD_LENGTH].copy_from_slice(&record_bytes(number, q));
+    Ok(next_number(number))
 }

@@ -3,100 +3,81 @@
 #![tactic(auto)]
 
 use access::Access;
-use testing::show;
-use trace::{Read, Write};
+use testing::{number_at, show};
 
-// Where the bytes that are lent begin, and where they end.
+// Where the bytes that are lent begin.
 const LENT: usize = 20;
-
-fn end_of(length: u8) -> usize {
-    LENT + length as usize
-}
-
-fn show_access(a: Access) {
-    show(0, b' ');
-    show(a.kind as u64, b' ');
-    show(a.side as u64, b' ');
-    show(a.s as u64, b' ');
-    show(a.a as u64, b' ');
-    show(a.b as u64, b' ');
-    show(a.c as u64, b' ');
-}
-
-// What the reader answers on the bytes of a case: 0 and the access, or the refusal.
-fn show_read(case: &[u8], end: usize, number: u16) {
-    if end < LENT || end > case.len() {
-        return;
-    }
-    match trace::read_record(&case[LENT..end], number) {
-        Read::Record(a) => show_access(a),
-        Read::Refused(refusal) => show(refusal as u64, b' '),
-    }
-}
-
-// The byte after a number: a line feed where no byte from this place on was lent.
-fn after(at: usize, end: usize) -> u8 {
-    if at < end { b' ' } else { b'\n' }
-}
-
-// What the writer answers: 0 and the next number, or the refusal.
-fn show_written(case: &mut [u8], end: usize, number: u16, q: Access) {
-    if end < LENT || end > case.len() {
-        return;
-    }
-    match trace::write_record(number, q, &mut case[LENT..end]) {
-        Write::Next(next) => {
-            show(0, b' ');
-            show(next as u64, after(LENT, end));
-        }
-        Write::Refused(refusal) => show(refusal as u64, after(LENT, end)),
-    }
-}
-
-fn show_byte(byte: u8, after: u8) {
-    show(byte as u64, after);
-}
-
-// The bytes that were lent, as they are then.
-fn show_bytes(case: &[u8], end: usize) {
-    let mut at = LENT;
-    while at < case.len() && at < end {
-        show_byte(case[at], after(at + 1, end));
-        at += 1;
-    }
-}
 
 fn access_of(case: &[u8; 60]) -> Access {
     Access {
         kind: case[4],
         side: case[5],
         s: case[6],
-        a: testing::number_at(case, 2),
-        b: testing::number_at(case, 3),
-        c: testing::number_at(case, 4),
+        a: number_at(case, 2),
+        b: number_at(case, 3),
+        c: number_at(case, 4),
     }
 }
 
-// Reads a case and writes a line of what the reader answers, with the number after the one given, and a line of what the writer does; false where the
-// input ends.
-fn run_case() -> bool {
-    let mut case = [0u8; 60];
-    if !testing::read_bytes(&mut case) {
-        return false;
+// What the reader answers on the bytes that are lent: 0 and the access, or the refusal.
+fn show_read(lent: &[u8], number: u16) {
+    match trace::read_record(lent, number) {
+        Ok(q) => {
+            for n in [
+                0,
+                u32::from(q.kind),
+                u32::from(q.side),
+                u32::from(q.s),
+                q.a,
+                q.b,
+                q.c,
+            ] {
+                show(u64::from(n), b' ');
+            }
+        }
+        Err(refusal) => show(u64::from(refusal.number()), b' '),
     }
-    let number = (testing::number_at(&case, 0) % 65536) as u16;
-    let end = end_of(case[2]);
-    show_read(&case, end, number);
-    show(trace::next_number(number) as u64, b'\n');
+}
+
+// The byte after a number: a line feed where no lent byte is left to follow.
+fn after(left: usize) -> u8 {
+    if left == 0 { b'\n' } else { b' ' }
+}
+
+// What the writer answers: 0 and the next number, or the refusal.
+fn show_written(lent: &mut [u8], number: u16, q: Access) {
+    let left = lent.len();
+    match trace::write_record(number, q, lent) {
+        Ok(next) => {
+            show(0, b' ');
+            show(u64::from(next), after(left));
+        }
+        Err(refusal) => show(u64::from(refusal.number()), after(left)),
+    }
+}
+
+// Reads a case and writes a line of what the reader answers, with the number after the one given, and a line of what the writer does, with the bytes that
+// were lent, as they are then; false where the input ends.
+fn run_case() -> bool {
+    let Some(mut case) = testing::read_case::<60>() else {
+        return false;
+    };
+    let number = u16::from_le_bytes([case[0], case[1]]);
+    let length = usize::from(case[2]);
     let q = access_of(&case);
-    show_written(&mut case, end, number, q);
-    show_bytes(&case, end);
+    if let Some(lent) = case.get(LENT..LENT + length) {
+        show_read(lent, number);
+    }
+    show(u64::from(trace::next_number(number)), b'\n');
+    if let Some(lent) = case.get_mut(LENT..LENT + length) {
+        show_written(lent, number, q);
+    }
+    for (byte, left) in case[LENT..].iter().zip((0..length).rev()) {
+        show(u64::from(*byte), after(left));
+    }
     true
 }
 
 fn main() {
-    let mut turns = testing::TURNS;
-    while turns > 0 && run_case() {
-        turns -= 1;
-    }
+    testing::each_case(run_case);
 }

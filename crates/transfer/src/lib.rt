@@ -4,9 +4,12 @@
 ghost use Rattle.std.specs.Prelude.{◌≡◌};
 ghost use Rattle.model.specs.Checks.{refusal};
 ghost use Rattle.model.specs.Transfer.{idle, request_checks, is_idle, transfer_sound};
+ghost use Rattle.access.specs.Bridge.{refusal_as};
 ghost use Rattle.transfer.specs.Bridge.{request_as, transfer_as};
 
-// What a start asks for: S, A, B and C.
+use access::Refusal;
+
+// What a start asks for: S, A, B and C. The direction is a byte, as a caller hands it in: above 1 it is refused.
 #[derive(Clone, Copy)]
 pub struct Request {
     pub direction: u8,
@@ -20,25 +23,19 @@ const MOST: u32 = 16384;
 
 impl Request {
     // Causes 7, 8 and 9, as a start, a sound record and one who asks for a source share them.
-    pub fn refusal(self) -> u8
-        ensures { result ≡ refusal (request_checks (request_as self)) }
+    pub fn checks(self) -> Result<(), Refusal>
+        ensures { refusal_as result ≡ refusal (request_checks (request_as self)) }
     {
-        let size = self.size;
-        let address = access::misplaced(self.shared, size, 0, access::SHARED_LENGTH)
-            | access::misplaced(self.pci, size, 0, access::PCI_LENGTH);
-        access::when(
-            access::EMPTY_TRANSFER,
-            size == 0,
-            access::when(
-                access::SIZE,
-                (size % 4 != 0) | (MOST < size),
-                access::when(access::ADDRESS, address, 0),
-            ),
+        Refusal::EmptyTransfer.when(self.size == 0)?;
+        Refusal::Size.when((self.size % 4 != 0) | (MOST < self.size))?;
+        Refusal::Address.when(
+            access::misplaced(self.shared, self.size, 0, access::SHARED_LENGTH)
+                | access::misplaced(self.pci, self.size, 0, access::PCI_LENGTH),
         )
     }
 }
 
-// No transfer runs, or one of which so many dwords have been moved.
+// No transfer runs, or one of which so many dwords have been moved: the two states of the part by its names, where an Option would say less.
 #[derive(Clone, Copy)]
 pub enum Transfer {
     Idle,
@@ -55,10 +52,7 @@ impl Transfer {
     pub fn is_idle(self) -> bool
         ensures { result ≡ is_idle (transfer_as self) }
     {
-        match self {
-            Transfer::Idle => true,
-            Transfer::Running(_, _) => false,
-        }
+        matches!(self, Transfer::Idle)
     }
 
     // "A running transfer meets the start checks with fewer dwords moved than size / 4."
@@ -68,9 +62,7 @@ impl Transfer {
         match self {
             Transfer::Idle => true,
             Transfer::Running(request, moved) => {
-                let later = request.refusal();
-                let number = access::when(access::SELECTOR, 1 < request.direction, later);
-                (number == 0) & (moved < request.size / 4)
+                (request.direction < 2) & request.checks().is_ok() & (moved < request.size / 4)
             }
         }
     }

@@ -1,5 +1,5 @@
 -- Laws of a step: the dword copied by its direction, the step's effect branch by branch, and that a sound card can step.
-use Rattle.std.specs.Prelude.{◌≡◌, Bool, true, false, List, [], ◌∷◌, ℕ, zero, suc, ◌+◌, ◌-◌, ◌*◌, ◌/◌, eqb, if◌then◌else◌}
+use Rattle.std.specs.Prelude.{◌≡◌, ⊤, Bool, true, false, List, [], ◌∷◌, ℕ, zero, suc, ◌+◌, ◌-◌, ◌*◌, ◌/◌, eqb, if◌then◌else◌, Result, Ok, Err}
 use Rattle.std.proofs.Math.Path.{refl}
 use Rattle.std.proofs.Common.{ap, sym, ◌∙◌, arith, add-one}
 use Rattle.model.specs.Checks.{refusal, ◌for◌, nonzero, misplaced, shared_length, pci_length}
@@ -18,8 +18,10 @@ use Rattle.model.proofs.Soundness.{sound_parts_lem, sound_transfer, fit_parts}
 use Rattle.model.specs.Transfer as model
 use Rattle.model.specs.Accesses as kinds
 use Rattle.access.specs.declared.Access.{Access}
-use Rattle.access.specs.declared.Answer.TheVariants.{Done, Refused}
-use Rattle.access.specs.Bridge.{access_as}
+use Rattle.access.specs.declared.Refusal.{Refusal}
+use Rattle.access.specs.declared.Refusal.TheVariants.{NotRunning}
+use Rattle.access.specs.Bridge.{access_as, number_of, refusal_as}
+use Rattle.access.specs.Laws.{number_positive, refused_number}
 use Rattle.settings.specs.Bridge.{settings_as}
 use Rattle.interrupts.specs.Bridge.{interrupts_as, raised_both}
 use Rattle.transfer.specs.declared.Request.{Request}
@@ -54,7 +56,7 @@ module _ {m w : List ℕ} {direction v : ℕ} (place offset : ℕ) where
 
 -- the set of events raised by the code has the one event
 pub ended_by_lem : (c d k : Card) (i : Interrupts) (e : Event) (n v x : ℕ) → n ≡ mask e → state_as d ≡ with_transfer idle (state_as c) →
-    i ≡ raised_both n (interrupts_as c.interrupts) → state_as k ≡ with_interrupts i (state_as d) → Effected (ending v x e) c (record { card = k; answer = Done v x })
+    i ≡ raised_both n (interrupts_as c.interrupts) → state_as k ≡ with_interrupts i (state_as d) → Effected (ending v x e) c (record { card = k; answer = Ok (record { v = v; x = x }) })
 ended_by_lem c d k i e n v x p q h s = record { answer = refl; state = s ∙ rw q (raised_both_lem (with_transfer idle (state_as c)) i e n p (rw (interrupts_is c) h)) }
 
 -- THE EFFECT, by where the dword's PCI address lies
@@ -88,26 +90,43 @@ module _ {c : Card} {m w : List ℕ} {r : Outcome} (t : model.Request) (i : ℕ)
 abbrev number : Access → (none : Bool) → ℕ
 number q none = refusal ((3 for nonzero (q.s ∷ q.a ∷ q.b ∷ q.c ∷ [])) ∷ (10 for none) ∷ [])
 
+-- cause 3 is the first of the row, and where it does not hold cause 10 decides
+unused_first : (unused none : Bool) (r : Refusal) → number_of r ≡ refusal ((3 for unused) ∷ []) → number_of r ≡ refusal ((3 for unused) ∷ (10 for none) ∷ [])
+unused_first true none r h = h
+unused_first false none r h = absurd (let p = number_positive r in omega (arith, p, h))
+
+used_then : (unused none : Bool) → refusal ((3 for unused) ∷ []) ≡ 0 → refusal ((10 for none) ∷ []) ≡ refusal ((3 for unused) ∷ (10 for none) ∷ [])
+used_then true none h = absurd (omega (arith, h))
+used_then false none h = refl
+
 -- by the transfer that the card runs
-module _ (c : Card) (q : Access) (m w : List ℕ) {d : Transfer} (e : c.transfer ≡ d) (n : ℕ) (h : n ≡ number q (is_idle (transfer_as d))) where
-  row : n ≡ refusal (row_of kinds.step (world_as c m w) (access_as q)).checks
+module _ (c : Card) (q : Access) (m w : List ℕ) {d : Transfer} (e : c.transfer ≡ d) where
+  abbrev unused : Bool
+  unused = nonzero (q.s ∷ q.a ∷ q.b ∷ q.c ∷ [])
+
+  row : number q (is_idle (transfer_as d)) ≡ refusal (row_of kinds.step (world_as c m w) (access_as q)).checks
   unfolding state_as
-  row = h ∙ rw e
+  row = rw e refl
 
-  pub step_refused : (n ≡ 0 → ⊥) → Did kinds.step c q m w (record { card = c; answer = Refused n }) m w
-  step_refused k = refused_did kinds.step c q m w n row k
+  pub step_done : {r : Outcome} {m' w' : List ℕ} → refusal ((3 for unused) ∷ []) ≡ 0 → is_idle (transfer_as d) ≡ false →
+      Stored (stepped (world_as c m w) (transfer_as d)) c m w r m' w' → Did kinds.step c q m w r m' w'
+  step_done {r} {m'} {w'} h k s =
+      stored_did kinds.step c q m w r m' w' (sym row ∙ sym (used_then unused (is_idle (transfer_as d)) h) ∙ rw k refl)
+      (by_effect (λ e. Stored e c m w r m' w') _ _ (ap (stepped (world_as c m w)) (transfer_is_lem c ∙ ap transfer_as e)) s)
 
-  pub step_done : {r : Outcome} {m' w' : List ℕ} → n ≡ 0 → Stored (stepped (world_as c m w) (transfer_as d)) c m w r m' w' → Did kinds.step c q m w r m' w'
-  step_done {r} {m'} {w'} k s =
-      stored_did kinds.step c q m w r m' w' (sym row ∙ k) (by_effect (λ e. Stored e c m w r m' w') _ _ (ap (stepped (world_as c m w)) (transfer_is_lem c ∙ ap transfer_as e)) s)
+-- a step that uses a field is refused
+pub step_refused : (c : Card) (q : Access) (m w : List ℕ) {T : Type 0} (checked : Result T Refusal) (r : Refusal) → checked ≡ Err r →
+    refusal_as checked ≡ refusal ((3 for nonzero (q.s ∷ q.a ∷ q.b ∷ q.c ∷ [])) ∷ []) → Did kinds.step c q m w (record { card = c; answer = Err r }) m w
+step_refused c q m w {T} checked r e p =
+    refused_did kinds.step c q m w checked r e
+    (ap (λ (c : Result T Refusal). refusal_as c) e ∙ unused_first (nonzero (q.s ∷ q.a ∷ q.b ∷ q.c ∷ [])) (is_idle (transfer_as c.transfer)) r (refused_number e p) ∙ row c q m w refl)
 
 -- a step without a transfer is refused
-pub step_idle : (c : Card) (q : Access) (m w : List ℕ) → c.transfer ≡ Idle → (n : ℕ) → n ≡ number q true → Did kinds.step c q m w (record { card = c; answer = Refused n }) m w
-step_idle c q m w e n h = step_refused c q m w e n h (some (nonzero (q.s ∷ q.a ∷ q.b ∷ q.c ∷ [])) h)
-  where
-    some : (unused : Bool) → n ≡ refusal ((3 for unused) ∷ (10 for true) ∷ []) → n ≡ 0 → ⊥
-    some true p z = omega arith
-    some false p z = omega arith
+pub step_idle : (c : Card) (q : Access) (m w : List ℕ) → c.transfer ≡ Idle → refusal ((3 for nonzero (q.s ∷ q.a ∷ q.b ∷ q.c ∷ [])) ∷ []) ≡ 0 →
+    Did kinds.step c q m w (record { card = c; answer = Err NotRunning }) m w
+step_idle c q m w e h =
+    let checked : Result ⊤ Refusal = Err NotRunning in
+    refused_did kinds.step c q m w checked NotRunning refl (used_then (nonzero (q.s ∷ q.a ∷ q.b ∷ q.c ∷ [])) true h ∙ row c q m w e)
 
 -- a sound card with its memories can step
 pub step_fits : (c : Card) (m w : List ℕ) (t : Request) (i : ℕ) → fit (world_as c m w) ≡ true → c.transfer ≡ Running t i → StepFits (settings_as c.settings) (request_as t) i m w

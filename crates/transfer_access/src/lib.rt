@@ -9,12 +9,13 @@ ghost use Rattle.model.specs.Changes.{transfer_is, done};
 ghost use Rattle.model.specs.Steps.{stepped};
 ghost use Rattle.model.specs.Accesses.{fit};
 ghost use Rattle.model.specs.Accesses as model;
+ghost use Rattle.access.specs.Bridge.{refusal_as};
 ghost use Rattle.settings.specs.Bridge.{settings_as};
 ghost use Rattle.transfer.specs.Bridge.{request_as};
 ghost use Rattle.card.specs.Bridge.{world_as, Effected, Stored, Did};
 ghost use Rattle.transfer_access.specs.Bridge.{StepFits, Copied, ending};
 
-use access::Access;
+use access::{Access, Refusal};
 use card::{Card, Outcome};
 use events::EventSet;
 use transfer::{Request, Transfer};
@@ -22,15 +23,12 @@ use transfer::{Request, Transfer};
 // 14 START
 
 // A start uses every field, and so never gives 3.
-fn start_refusal(request: Request, idle: bool) -> u8
-    ensures { result ≡ refusal (direction_check (request_as request) ∷ (6 for not idle) ∷ request_checks (request_as request)) }
+fn check_start(request: Request, idle: bool) -> Result<(), Refusal>
+    ensures { refusal_as result ≡ refusal (direction_check (request_as request) ∷ (6 for not idle) ∷ request_checks (request_as request)) }
 {
-    let later = request.refusal();
-    access::when(
-        access::SELECTOR,
-        1 < request.direction,
-        access::when(access::BUSY, !idle, later),
-    )
+    Refusal::Selector.when(1 < request.direction)?;
+    Refusal::Busy.when(!idle)?;
+    request.checks()
 }
 
 // "V = size / 4."
@@ -50,25 +48,13 @@ pub fn start(card: Card, q: Access) -> Outcome
         pci: q.b,
         size: q.c,
     };
-    let transfer = card.transfer;
-    let number = start_refusal(request, transfer.is_idle());
-    if number != 0 {
-        return card.refused(number);
+    if let Err(refusal) = check_start(request, card.transfer.is_idle()) {
+        return card.refused(refusal);
     }
     begin(card, request)
 }
 
 // 15 STEP
-
-fn step_refusal(q: Access, idle: bool) -> u8
-    ensures { result ≡ refusal ((3 for nonzero (q.s ∷ q.a ∷ q.b ∷ q.c ∷ [])) ∷ (10 for idle) ∷ []) }
-{
-    access::when(
-        access::UNUSED_FIELD,
-        access::nonzero(q.s, q.a, q.b, q.c),
-        access::when(access::NOT_RUNNING, idle, 0),
-    )
-}
 
 // "One dword is copied as it stands then": direction 0 is window to shared, 1 shared to window.
 fn copy(shared: &mut [u8], window: &mut [u8], direction: u8, at: usize, offset: usize)
@@ -88,9 +74,8 @@ fn copy(shared: &mut [u8], window: &mut [u8], direction: u8, at: usize, offset: 
 fn ended(card: Card, events: EventSet, v: u32, x: u32) -> Outcome
     ensures { (e : Event) → events.0 ≡ mask e → Effected (ending v x e) card result }
 {
-    let interrupts = card.interrupts;
     card.with_transfer(Transfer::Idle)
-        .with_interrupts(interrupts.raise_both(events))
+        .with_interrupts(card.interrupts.raise_both(events))
         .done(v, x)
 }
 
@@ -135,18 +120,11 @@ pub fn step(card: Card, shared: &mut [u8], window: &mut [u8], q: Access) -> Outc
     requires { fit (world_as card shared.old window.old) ≡ true }
     ensures { Did model.step card q shared.old window.old result shared.new window.new }
 {
-    let transfer = card.transfer;
-    match transfer {
-        Transfer::Idle => {
-            let number = step_refusal(q, true);
-            card.refused(number)
-        }
-        Transfer::Running(request, moved) => {
-            let number = step_refusal(q, false);
-            if number != 0 {
-                return card.refused(number);
-            }
-            advance(card, shared, window, request, moved)
-        }
+    if let Err(refusal) = access::no_field(q) {
+        return card.refused(refusal);
+    }
+    match card.transfer {
+        Transfer::Idle => card.refused(Refusal::NotRunning),
+        Transfer::Running(request, moved) => advance(card, shared, window, request, moved),
     }
 }

@@ -30,7 +30,8 @@ use Rattle.interrupts.specs.Bridge.{interrupts_as}
 use Rattle.card.specs.declared.Card.{Card}
 use Rattle.card.specs.Bridge.{state_as}
 use Rattle.card.specs.Laws.{fifos_is, interrupts_is}
-use Rattle.standing.specs.Bridge.{PerformedOn, performed, zeros}
+use Rattle.zeroed.specs.Bridge.{zeros}
+use Rattle.standing.specs.Bridge.{PerformedOn, performed}
 use Rattle.history.specs.declared.History.{History}
 use Rattle.history.specs.Bridge.{Knows, Next}
 use Rattle.why.specs.Bridge.{is_live, fifo_of, entries_for, shown_by}

@@ -7,14 +7,15 @@ ghost use Rattle.model.specs.Checks.{◌for◌, refusal, above};
 ghost use Rattle.model.specs.Sides.{side_of};
 ghost use Rattle.model.specs.State.{sound};
 ghost use Rattle.model.specs.Why.{reserved, places, told, why};
+ghost use Rattle.access.specs.Bridge.{refusal_as};
 ghost use Rattle.card.specs.Bridge.{state_as};
-ghost use Rattle.standing.specs.Bridge.{zeros};
+ghost use Rattle.zeroed.specs.Bridge.{zeros};
 ghost use Rattle.history.specs.Bridge.{told_as};
 ghost use Rattle.why.specs.Bridge.{is_live, fifo_of, entries_for, shown_by};
 
+use access::Refusal;
 use card::Card;
 use history::{Explanation, History};
-use trace::Read;
 
 // "A trace of at most 4,096 records."
 const LONGEST: usize = 81920;
@@ -49,18 +50,15 @@ fn look(card: Card, side: u8, position: u8) -> Shown
     ensures { result ≡ shown_by (side_of side) position (state_as card) }
 {
     if is_live(position) {
-        let fifos = card.fifos;
-        let held = fifos.held(fifo_of(position));
+        let held = card.fifos.held(fifo_of(position));
         return Shown {
             up: held != 0,
-            held: held,
+            held,
         };
     }
-    let interrupts = card.interrupts;
-    let register = interrupts.register(side);
-    let status = register.status;
+    let register = card.interrupts.register(side);
     Shown {
-        up: status.has(position),
+        up: register.status.has(position),
         held: 0,
     }
 }
@@ -71,61 +69,51 @@ fn entries(card: Card, position: u8) -> [u32; 32]
     ensures { result ≡ places (entries_for position (state_as card)) }
 {
     if is_live(position) {
-        let fifos = card.fifos;
-        return fifos.entries(fifo_of(position));
+        return card.fifos.entries(fifo_of(position));
     }
     [0; 32]
 }
 
 // "43 a side above 1; 42 a position above 9 or reserved there; 41 above 81,920 bytes", in this order.
-fn refusal(side: u8, position: u8, size: usize) -> u8
-    ensures { result ≡ refusal (43 for above 1 side ∷ 42 for reserved (side_of side) position ∷ 41 for above 81920 size ∷ []) }
+fn checks(side: u8, position: u8, size: usize) -> Result<(), Refusal>
+    ensures { refusal_as result ≡ refusal (43 for above 1 side ∷ 42 for reserved (side_of side) position ∷ 41 for above 81920 size ∷ []) }
 {
-    access::when(
-        access::NO_SIDE,
-        side > 1,
-        access::when(
-            access::RESERVED,
-            events::reserved(side, position),
-            access::when(access::LONG_TRACE, size > LONGEST, 0),
-        ),
-    )
+    Refusal::NoSide.when(side > 1)?;
+    Refusal::Reserved.when(events::reserved(side, position))?;
+    Refusal::LongTrace.when(size > LONGEST)
 }
 
 // Record after record, from the fresh card and zeroed memories.
-fn follow(shared: &mut [u8], window: &mut [u8], trace: &[u8], side: u8, position: u8) -> Explanation
+fn follow(
+    shared: &mut [u8],
+    window: &mut [u8],
+    trace: &[u8],
+    side: u8,
+    position: u8,
+) -> Result<Explanation, Refusal>
     requires shared_value { (shared.old ≡ zeros 16384) × (window.old ≡ zeros 32768) }
     requires side_value { (above 1 side ≡ false) × (reserved (side_of side) position ≡ false) × (above 81920 (length trace.now) ≡ false) }
     ensures { told_as result ≡ told (why trace.now side position) }
 {
     let mut standing = standing::start();
     let mut history = History::start();
-    let mut at = 0;
-    while at < trace.len() {
+    for record in trace.chunks(20) {
         let n = standing.expected;
-        let read = trace::read_record(&trace[at..], n);
-        let Read::Record(q) = read else {
-            return history::refused(access::REFUSED_TRACE);
+        let Ok(q) = trace::read_record(record, n) else {
+            return Err(Refusal::RefusedTrace);
         };
-        let performed = standing.perform(shared, window, q);
-        standing = performed.standing;
-        let card = standing.card;
-        let shown = look(card, side, position);
+        standing = standing.perform(shared, window, q).standing;
+        let shown = look(standing.card, side, position);
         history = history.after(n, shown.up, shown.held);
-        at += 20;
     }
-    let card = standing.card;
-    history.told(entries(card, position))
+    Ok(history.told(entries(standing.card, position)))
 }
 
-pub fn why(trace: &[u8], side: u8, position: u8) -> Explanation
+pub fn why(trace: &[u8], side: u8, position: u8) -> Result<Explanation, Refusal>
     ensures { told_as result ≡ told (why trace.now side position) }
 {
-    let number = refusal(side, position, trace.len());
-    if number != 0 {
-        return history::refused(number);
-    }
-    let mut shared = standing::shared_memory();
-    let mut window = standing::window_memory();
+    checks(side, position, trace.len())?;
+    let mut shared = zeroed::bytes::<16384>();
+    let mut window = zeroed::bytes::<32768>();
     follow(&mut shared, &mut window, trace, side, position)
 }

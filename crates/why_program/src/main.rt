@@ -2,51 +2,32 @@
 // second. Where a read or a write fails, standard error says which of the two it was, and after how many records.
 #![tactic(auto)]
 
-ghost use Rattle.std.specs.Prelude.{◌≡◌, ◌+◌, ◌≤◌, length};
+ghost use Rattle.std.specs.Prelude.{◌≡◌, ◌≤◌, length};
 ghost use Rattle.decimal.specs.Bridge.{Written};
+ghost use Rattle.why_text.specs.Bridge.{end_of};
 ghost use Rattle.why_program.specs.Bridge.{Argument, Responded, answer_end, usage_end, fault_text, Closed};
 
-use decimal::Whole;
 use std::env::Env;
 use std::io::Stdin;
 use stream::Chunk;
 use why_text::Reply;
 
-// An argument has at most 131,071 bytes (Linux), and the longest trace that is not refused 81,920.
-fn input_buffer() -> [u8; 131072]
-    ensures { length result ≡ 131072 }
-{
-    [0; 131072]
-}
-
-fn output_buffer() -> [u8; 1365]
-    ensures { length result ≡ 1365 }
-{
-    [0; 1365]
-}
-
 // An argument, read as a number. One that is missing is empty, and no number.
-fn argument(rt: &HostRuntime, i: usize, buffer: &mut [u8]) -> Whole
+fn argument(rt: &HostRuntime, i: usize, buffer: &mut [u8; 131072]) -> Option<u8>
     ensures { Argument buffer.new result }
 {
-    let size = match rt.arg(i, buffer) {
-        Ok(size) => size,
-        Err(_) => 0,
-    };
+    let size = rt.arg(i, buffer).unwrap_or(0);
     decimal::read_whole(&buffer[0..size])
 }
 
 // The trace, as far as the buffer holds it; nothing is read for a question that is not asked.
-fn read_trace(stdin: Stdin, asked: bool, input: &mut [u8]) -> Chunk
+fn read_trace(stdin: Stdin, asked: bool, input: &mut [u8; 131072]) -> Chunk
     ensures { result.size ≤ length input.new }
 {
     if asked {
         return stream::read_chunk(stdin, input, 0);
     }
-    Chunk {
-        size: 0,
-        cut: false,
-    }
+    Chunk::default()
 }
 
 // What was read of the trace, and what stands in the output buffer.
@@ -56,44 +37,44 @@ struct Turn {
     reply: Reply,
 }
 
-fn respond(stdin: Stdin, side: Whole, position: Whole, input: &mut [u8], out: &mut [u8]) -> Turn
-    requires { length out.old ≡ 1365 }
+fn respond(
+    stdin: Stdin,
+    side: Option<u8>,
+    position: Option<u8>,
+    input: &mut [u8; 131072],
+    out: &mut [u8; 1365],
+) -> Turn
     ensures responded { Responded side position result input.new out.old out.new }
-    ensures end_bound { result.reply.end ≤ 1365 }
+    ensures end_bound { end_of result.reply ≤ 1365 }
 {
-    let chunk = read_trace(stdin, side.stands & position.stands, input);
+    let chunk = read_trace(stdin, side.is_some() & position.is_some(), input);
     let size = chunk.size;
     let reply = why_text::ask(side, position, &input[0..size], out);
-    Turn {
-        chunk: chunk,
-        reply: reply,
-    }
+    Turn { chunk, reply }
 }
 
 impl Turn {
     // Where the part for standard output ends: an answer, unless reading failed.
     fn answer_end(self) -> usize
-        requires { self.reply.end ≤ 1365 }
+        requires { end_of self.reply ≤ 1365 }
         ensures value { result ≡ answer_end self }
         ensures upper_bound { result ≤ 1365 }
     {
-        if self.reply.answered & !self.chunk.cut {
-            self.reply.end
-        } else {
-            0
+        match self.reply {
+            Reply::Answer(end) if !self.chunk.cut => end,
+            Reply::Answer(_) | Reply::Usage(_) => 0,
         }
     }
 
     // Where the part for standard error ends: the usage line.
     fn usage_end(self) -> usize
-        requires { self.reply.end ≤ 1365 }
+        requires { end_of self.reply ≤ 1365 }
         ensures value { result ≡ usage_end self }
         ensures upper_bound { result ≤ 1365 }
     {
-        if self.reply.answered {
-            0
-        } else {
-            self.reply.end
+        match self.reply {
+            Reply::Answer(_) => 0,
+            Reply::Usage(end) => end,
         }
     }
 }
@@ -111,20 +92,20 @@ fn fault_line(turn: Turn, lost: bool, out: &mut [u8]) -> usize
     0
 }
 
-fn finish(turn: Turn, out: &mut [u8])
-    requires out_len { length out.old ≡ 1365 }
-    requires end_bound { turn.reply.end ≤ 1365 }
+fn finish(turn: Turn, out: &mut [u8; 1365])
+    requires { end_of turn.reply ≤ 1365 }
     ensures { Closed turn out.old out.new }
 {
-    let lost = !io::write_all(1, stream::text(&out[0..], turn.answer_end()));
-    io::write_all(2, stream::text(&out[0..], turn.usage_end()));
+    let lost = !io::write_all(1, stream::text(out, turn.answer_end()));
+    io::write_all(2, stream::text(out, turn.usage_end()));
     let fault = fault_line(turn, lost, out);
-    io::write_all(2, stream::text(&out[0..], fault));
+    io::write_all(2, stream::text(out, fault));
 }
 
 fn main(rt: HostRuntime) {
-    let mut input = input_buffer();
-    let mut out = output_buffer();
+    // An argument has at most 131,071 bytes (Linux), and the longest trace that is not refused 81,920.
+    let mut input = zeroed::bytes();
+    let mut out = zeroed::bytes();
     let side = argument(&rt, 1, &mut input);
     let position = argument(&rt, 2, &mut input);
     let turn = respond(rt.stdin(), side, position, &mut input, &mut out);

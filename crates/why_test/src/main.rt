@@ -3,127 +3,86 @@
 // two texts and the texts, a side and a position. What the program would write is written, and behind an answer its places, entries and records.
 #![tactic(auto)]
 
-ghost use Rattle.std.specs.Prelude.{◌≡◌, ◌≤◌, length};
-
-use testing::show;
+use testing::{numbers, read_case, read_most, show};
+use why_text::Reply;
 
 // No trace of a case is longer.
-fn trace_buffer() -> [u8; 82000]
-    ensures { length result ≡ 82000 }
-{
-    [0; 82000]
-}
+const TRACE: usize = 82000;
 
 // Nor is a text.
-fn text_buffer() -> [u8; 5120]
-    ensures { length result ≡ 5120 }
-{
-    [0; 5120]
+const TEXT: usize = 5120;
+
+const ANSWER: usize = 1365;
+
+// Where the texts of a question and its answer stand.
+#[derive(Drop)]
+struct Room {
+    side: [u8; TEXT],
+    position: [u8; TEXT],
+    answer: [u8; ANSWER],
 }
 
-fn trace_size(bytes: u32) -> usize
-    ensures { result ≤ 82000 }
-{
-    if bytes > 82000 { 82000 } else { bytes as usize }
-}
-
-fn text_size(bytes: u32) -> usize
-    ensures { result ≤ 5120 }
-{
-    if bytes > 5120 { 5120 } else { bytes as usize }
-}
-
-fn show_places(numbers: [u32; 32]) {
-    let mut i = 0;
-    while i < 32 {
-        show(numbers[i] as u64, b' ');
-        i += 1;
+fn show_places(places: &[u32; 32]) {
+    for place in places {
+        show(u64::from(*place), b' ');
     }
     io::write_all(1, b"\n");
 }
 
-fn ask(side: &[u8], position: &[u8], trace: &[u8], out: &mut [u8])
-    requires { length out.old ≡ 1365 }
-{
-    let s = decimal::read_whole(side);
-    let p = decimal::read_whole(position);
-    let reply = why_text::ask(s, p, trace, out);
-    io::write_all(1, stream::text(&out[0..], reply.end));
-    if reply.answered {
-        let answer = why::why(trace, s.number, p.number);
-        let entries = answer.entries;
-        let records = answer.records;
-        show_places(entries);
-        show_places(records);
+fn ask(side: &[u8], position: &[u8], trace: &[u8], answer: &mut [u8; ANSWER]) {
+    let side = decimal::read_whole(side);
+    let position = decimal::read_whole(position);
+    let end = match why_text::ask(side, position, trace, answer) {
+        Reply::Answer(end) | Reply::Usage(end) => end,
+    };
+    io::write_all(1, &answer[..end]);
+    if let (Some(side), Some(position)) = (side, position) {
+        match why::why(trace, side, position) {
+            Ok(explanation) => {
+                show_places(&explanation.entries);
+                show_places(&explanation.records);
+            }
+            Err(_) => {
+                show_places(&[0; 32]);
+                show_places(&[0; 32]);
+            }
+        }
     }
 }
 
 // Asks a question; false where there is none any more.
-fn next_question(trace: &[u8], side: &mut [u8], position: &mut [u8], out: &mut [u8]) -> bool
-    requires { (length side.old ≡ 5120) × (length position.old ≡ 5120) × (length out.old ≡ 1365) }
-{
-    let mut head = [0u8; 8];
-    if !testing::read_bytes(&mut head) {
+fn next_question(trace: &[u8], room: &mut Room) -> bool {
+    let Some(head) = read_case::<8>() else {
         return false;
-    }
-    let a = text_size(testing::number_at(&head, 0));
-    let b = text_size(testing::number_at(&head, 1));
-    let n = io::read_full(0, &mut side[0..a]);
-    let m = io::read_full(0, &mut position[0..b]);
-    ask(&side[0..n], &position[0..m], trace, out);
+    };
+    let [side_size, position_size] = numbers::<2>(&head);
+    let side = read_most(&mut room.side, side_size);
+    let position = read_most(&mut room.position, position_size);
+    ask(side, position, trace, &mut room.answer);
     true
-}
-
-fn ask_all(questions: u32, trace: &[u8], side: &mut [u8], position: &mut [u8], out: &mut [u8])
-    requires { (length side.old ≡ 5120) × (length position.old ≡ 5120) × (length out.old ≡ 1365) }
-{
-    let mut left = questions;
-    while left > 0 && next_question(trace, side, position, out) {
-        left -= 1;
-    }
 }
 
 // Reads a trace, and asks its questions; false where there is none any more.
-fn next_trace(input: &mut [u8], side: &mut [u8], position: &mut [u8], out: &mut [u8]) -> bool
-    requires side_len { (length side.old ≡ 5120) × (length position.old ≡ 5120) × (length out.old ≡ 1365) }
-    requires input_len { length input.old ≡ 82000 }
-{
-    let mut head = [0u8; 8];
-    if !testing::read_bytes(&mut head) {
+fn next_trace(input: &mut [u8; TRACE], room: &mut Room) -> bool {
+    let Some(head) = read_case::<8>() else {
         return false;
+    };
+    let [size, questions] = numbers::<2>(&head);
+    let trace = read_most(input, size);
+    for _ in 0..questions {
+        if !next_question(trace, room) {
+            break;
+        }
     }
-    let asked = trace_size(testing::number_at(&head, 0));
-    let size = io::read_full(0, &mut input[0..asked]);
-    ask_all(
-        testing::number_at(&head, 1),
-        &input[0..size],
-        side,
-        position,
-        out,
-    );
     true
 }
 
-fn all_traces(input: &mut [u8], side: &mut [u8], position: &mut [u8], out: &mut [u8])
-    requires side_len { (length side.old ≡ 5120) × (length position.old ≡ 5120) × (length out.old ≡ 1365) }
-    requires input_len { length input.old ≡ 82000 }
-{
-    let mut turns = testing::TURNS;
-    while turns > 0 && next_trace(input, side, position, out) {
-        turns -= 1;
-    }
-}
-
-fn output_buffer() -> [u8; 1365]
-    ensures { length result ≡ 1365 }
-{
-    [0; 1365]
-}
-
 fn main() {
-    let mut input = trace_buffer();
-    let mut side = text_buffer();
-    let mut position = text_buffer();
-    let mut out = output_buffer();
-    all_traces(&mut input, &mut side, &mut position, &mut out);
+    let mut input = [0; TRACE];
+    let mut room = Room {
+        side: [0; TEXT],
+        position: [0; TEXT],
+        answer: [0; ANSWER],
+    };
+    testing::each_case(|| next_trace(&mut input, &mut room));
 }

@@ -7,4 +7,4 @@ pub returns-then-pass : goal.returns-then-pass
 returns-then-pass c = fresh_passed (settings_as c.args.settings) _ c.pass.ensures _ c.if-pass.true c.fresh.ensures
 
 pub returns : goal.returns
-returns c = fresh_failed (settings_as c.args.settings) _ c.pass.ensures _ _ c.if-pass.false c.zero.ensures c.fresh-2.ensures
+returns c = fresh_failed (settings_as c.args.settings) _ c.pass.ensures _ _ c.if-pass.false c.zero.ensures c.fresh-card.ensures

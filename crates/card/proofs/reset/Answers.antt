@@ -1,17 +1,14 @@
 -- `card::reset` meets its contract: refused by its checks, or done with the effect of its row.
-use Rattle.std.proofs.Common.{refl, sym, ◌∙◌}
-use Rattle.model.specs.Accesses as model
+use Rattle.std.proofs.Common.{refl}
+use Rattle.access.specs.Laws.{passed_number}
 use Rattle.card.specs.Bridge.{state_as}
 use Rattle.card.specs.Laws.{refused_did, done_did}
 use Rattle.card.proofs.reset.Goals as goal
 
-pub returns-then-n-ne0 : goal.returns-then-n-ne0
-returns-then-n-ne0 c =
-    let a = c.args in
-    λ m w. rw c.refused.ensures (refused_did model.reset a.card a.q m w _ c.no_field-n.ensures c.if-n-ne0.true)
+pub returns-in-Err : goal.returns-in-Err
+returns-in-Err c = λ m w. rw c.refused.ensures (refused_did _ _ _ _ _ _ _ c.in-Err.is c.no_field.ensures)
 
 pub returns : goal.returns
 unfolding state_as
 returns c =
-    let a = c.args in
-    λ m w. rw c.done.ensures (done_did model.reset a.card a.q m w _ (sym c.no_field-n.ensures ∙ c.if-n-ne0.false) refl (record { answer = refl; state = c.fresh.ensures }))
+    λ m w. rw c.done.ensures (done_did _ _ _ _ _ _ (passed_number c.in_default.is c.no_field.ensures) refl (record { answer = refl; state = c.fresh.ensures }))

@@ -1,18 +1,40 @@
--- A turn of the loop turns one chunk more.
-use Rattle.std.proofs.Common.{◌+◌, refl, arith, rules}
-use Rattle.stream.specs.Laws.{goes_on_lem}
-use Rattle.converter.specs.Bridge.{most_chunks}
-use Rattle.converter.specs.Laws.{first_going, none_yet, more_going, chunk_more}
+-- A turn that goes on is followed by one that has turned one chunk more.
+use Rattle.std.proofs.Common.{refl, sym, ◌∙◌, arith, rules}
+use Rattle.model.proofs.TestLaws.{no_both}
+use Rattle.stream.specs.Laws.{none_behind, one_behind, ended_early}
+use Rattle.converter.specs.Laws.{first_going, none_yet, more_going, chunk_more, ended}
 use Rattle.converter.proofs.convert_input.Goals as goal
 
-pub loop-chunks-init : goal.loop-chunks-init
-loop-chunks-init c =
-    let first = c.first-last.ensures in
-    (refl, refl, omega arith, rw first (omega arith), rw first (none_yet c.args.from c.args.input.now), rw first first_going)
+pub loop-init : goal.loop-init
+loop-init c =
+    let first = c.first-turn.ensures in
+    record {
+      input = search rules;
+      out = search rules;
+      count = rw first (omega arith);
+      behind = rw first (none_behind _ refl (none_yet c.args.from c.args.input.now, first_going));
+    }
 
-pub loop-chunks-preserved : goal.loop-chunks-preserved
-loop-chunks-preserved c =
-    let l = c.loop-chunks in
+pub loop-preserved : goal.loop-preserved
+loop-preserved c =
+    let l = c.loop in
     let turn = c.convert_next-turn in
-    let on = goes_on_lem most_chunks turn.result.more _ (l.chunks + 1) refl c.if-turn-chunks.false (omega (arith, l.invariant.2)) in
-    (search rules, search rules, on.1, omega (arith, turn.ensures.count_bound_2, l.invariant.3), chunk_more on.0 turn.ensures.turned l.invariant.4, more_going on.0 turn.ensures.turned)
+    let on = l.invariant.behind.on (sym c.goes_on-on.ensures ∙ c.if-not-on.false) in
+    record {
+      input = search rules;
+      out = search rules;
+      count = omega (arith, turn.ensures.count_bound_2, l.invariant.count);
+      behind = one_behind l.counter turn.result (λ m. (chunk_more m turn.ensures.turned on.0, more_going m turn.ensures.turned))
+          (record { before = l.counter; counted = refl; place = _; reached = on.0; last = turn.ensures.turned });
+    }
+
+pub returns-then-not-on-clause-ended : goal.returns-then-not-on-clause-ended
+returns-then-not-on-clause-ended c =
+    let m = sym c.goes_on-on.ensures ∙ c.if-not-on.true in
+    ended (ended_early c.loop.invariant.behind m) (λ n. no_both (sym m ∙ n))
+
+pub returns-clause-ended : goal.returns-clause-ended
+returns-clause-ended c = ended (c.loop.invariant.behind.last (λ z. absurd (omega arith))) (λ m. omega arith)
+
+pub convert_next-turn-requires-clause-going : goal.convert_next-turn-requires-clause-going
+convert_next-turn-requires-clause-going c = (c.loop.invariant.behind.on (sym c.goes_on-on.ensures ∙ c.if-not-on.false)).1

@@ -1,29 +1,45 @@
--- A number is read digit by digit: the invariant says which digits stand before the place. Each turn leaves less of the text.
-use Rattle.std.proofs.Common.{sym, ◌∙◌, arith}
-use Rattle.decimal.specs.ReadLaws.{within, one_more, goes_on_lem, read_zero, read_none, read_closed}
+-- A number is read digit by digit: the invariant says which digits stand in front.
+use Rattle.std.proofs.Common.{◌≡◌, ◌<◌, length, ap, sym, ◌∙◌, arith, rules, get_or, drop, ◌+◌, ◌-◌, Some, None, eqb, ltb, ltb-false}
+use Rattle.std.proofs.lemmas.Bool.{eqb-false}
+use Rattle.model.proofs.TestLaws.{or_left, or_right}
+use Rattle.decimal.specs.Bridge.{digit_of}
+use Rattle.decimal.specs.ReadLaws.{here, no_byte, no_digit, first_read, unended, none_over, ended, one_more}
 use Rattle.decimal.proofs.read_field.Goals as goal
 
-pub returns-then-first-eq0 : goal.returns-then-first-eq0
-returns-then-first-eq0 c = rw c.closed.ensures (read_zero c.args.text.now c.args.at _ c.requires (sym c.if-first-eq0.true ∙ c.digit_at-first.ensures))
+pub returns-in_err-get : goal.returns-in_err-get
+returns-in_err-get c = rw c.from_residual.ensures (no_byte _ _ _ (omega (arith, c.in_err-get.ensures.lookup)))
 
-pub loop-digit-preserved : goal.loop-digit-preserved
-loop-digit-preserved c =
-    let l = c.loop-digit in
-    let o = goes_on_lem l.digit l.n c.args.largest c.loop-digit-test.true in
-    let here = within c.args.text.now l.p (omega (arith, l.invariant.1, o)) in (
-      one_more _ _ l.p l.n l.digit l.invariant.1 o.0 l.invariant.2 l.invariant.0,
-      c.digit_at-digit.ensures,
-      omega (arith, l.invariant.2),
-      omega (arith, o),
-      omega (arith, here),
-    )
+pub returns-in_err-n : goal.returns-in_err-n
+returns-in_err-n c =
+    let within : c.args.at < length c.args.text.now = omega (arith, c.in_ok-get.ensures.lookup) in
+    let byte : c.in_ok-get.field-0.now ≡ get_or c.args.text.now c.args.at 0 = search rules in
+    rw c.from_residual-in_err-n.ensures (no_digit _ _ _ within (ap digit_of (sym byte) ∙ sym c.in_err-n.ensures))
 
-pub returns-then-n-limit : goal.returns-then-n-limit
-returns-then-n-limit c =
-    let l = c.loop-digit in
-    rw c.unreadable.ensures (read_none _ _ _ l.invariant.0 l.invariant.1 c.loop-digit-test.false c.if-n-limit.true)
+pub loop-p-init : goal.loop-p-init
+loop-p-init c =
+    let within : c.args.at < length c.args.text.now = omega (arith, c.in_ok-get.ensures.lookup) in
+    let byte : c.in_ok-get.field-0.now ≡ get_or c.args.text.now c.args.at 0 = search rules in
+    let first = first_read _ _ _ _ (here c.args.text.now c.args.at within) (ap digit_of (sym byte) ∙ sym c.in_ok-n.ensures) in
+    (first.0, omega arith)
+
+pub returns-then-not-is_ascii_digit : goal.returns-then-not-is_ascii_digit
+returns-then-not-is_ascii_digit c =
+    let none : digit_of (get_or c.args.text.now c.loop-p.p 0) ≡ None = search rules in
+    rw c.then_some.ensures (ended _ _ _ c.loop-p.invariant.0 c.loop-p-test.true c.requires none)
+
+pub returns-then-over : goal.returns-then-over
+returns-then-over c =
+    let some : digit_of (get_or c.args.text.now c.loop-p.p 0) ≡ Some (get_or c.args.text.now c.loop-p.p 0 - 48) = search rules in
+    none_over _ _ _ c.loop-p.invariant.0 c.loop-p-test.true c.requires some c.if-over.true
+
+pub loop-p-preserved : goal.loop-p-preserved
+loop-p-preserved c =
+    let l = c.loop-p in
+    let d : digit_of (get_or c.args.text.now c.loop-p.p 0) ≡ Some (get_or c.args.text.now c.loop-p.p 0 - 48) = search rules in
+    let some = eqb-false l.n 0 (or_left (eqb l.n 0) (ltb c.args.largest l.n) c.if-over.false) in
+    let fits = ltb-false c.args.largest l.n (or_right (eqb l.n 0) (ltb c.args.largest l.n) c.if-over.false) in
+    let more = one_more (drop (l.p + 1) c.args.text.now) _ _ (here c.args.text.now l.p c.loop-p-test.true) (omega arith) d l.invariant.0 in
+    (more.0, omega arith)
 
 pub returns : goal.returns
-returns c =
-    let l = c.loop-digit in
-    rw c.closed-2.ensures (read_closed _ _ _ l.invariant.0 l.invariant.1 c.loop-digit-test.false c.requires c.if-n-limit.false)
+returns c = unended _ _ _ c.loop-p.invariant.0 c.loop-p-test.false

@@ -1,10 +1,7 @@
-use Rattle.std.proofs.Common.{◌-◌, ◌≡◌, ◌+◌, ◌≤◌, length, drop}
-use Rattle.decimal.specs.Bridge.{digit_in}
+-- The digits in front are those of the number so far.
+use Rattle.std.proofs.Common.{◌≤◌, drop}
 use Rattle.decimal.specs.ReadLaws.{Digits}
 use Rattle.decimal.proofs.read_whole.Given as goal
 
-abbrev pub invariant-loop-digit : goal.invariant-loop-digit
-invariant-loop-digit l = Digits l.text l.p l.n × (l.digit ≡ digit_in (drop l.p l.text)) × (1 ≤ l.p + l.digit) × (l.n ≤ 255) × (l.p ≤ length l.text)
-
-abbrev pub decreases-loop-digit : goal.decreases-loop-digit
-decreases-loop-digit l = length l.text - l.p
+abbrev pub invariant-loop-b : goal.invariant-loop-b
+invariant-loop-b l = Digits l.text (drop l.b-index l.rest) l.n × (l.n ≤ 255)

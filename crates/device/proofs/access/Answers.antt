@@ -1,11 +1,10 @@
 -- `device::access` meets its contract: past the record and the side each arm of the match is one kind, and its promise is the kind's.
-use Rattle.std.proofs.Common.{◌≡◌, ◌≤◌, refl, sym, ◌∙◌, arith, Bool, true, false, List, ℕ, length}
+use Rattle.std.proofs.Common.{◌≡◌, ◌≤◌, refl, sym, ◌∙◌, arith, Bool, true, false, List, ℕ, length, IsOk}
 use borrow.Author.Tests.{lt-ltb, le-ltb}
 use Rattle.model.specs.Checks.{above}
 use Rattle.model.specs.Accesses.{kind_of, fit, access}
 use Rattle.model.proofs.Soundness.{Fit, fit_parts}
 use Rattle.access.specs.declared.Access.{Access}
-use Rattle.access.specs.declared.Answer.TheVariants.{Refused}
 use Rattle.access.specs.Bridge.{access_as, answer_as}
 use Rattle.card.specs.declared.Card.{Card}
 use Rattle.card.specs.declared.Outcome.{Outcome}
@@ -30,7 +29,7 @@ module _ (card : Card) (m w : List ℕ) {b : Bool} (tested : (m' w' : List ℕ) 
     one : (q : Access) → q.side ≤ 1 → (n : ℕ) {r : Outcome} {m' w' : List ℕ} → above 16 n ≡ false → q.kind ≡ n → Did (kind_of n) card q m w r m' w' → record {
       window_after : outcome_as r m' w' ≡ access (world_as card m w) (access_as q);
       card_value : ((answer_as r.answer).number ≡ 0 → ⊥) → r.card ≡ card;
-      fact : r.answer ≡ Refused 0 → ⊥;
+      fact : (answer_as r.answer).number ≡ 0 → IsOk r.answer;
     }
     one q s n l k d = let a = arm card q m w n (fit_by past) (le-ltb 1 q.side s) l k d in record { window_after = a.0; card_value = a.1.0; fact = a.1.1 }
 

@@ -1,6 +1,9 @@
 -- `fifo_access::take_entry` meets its contract: the FIFOs as the take left them, and what it gave.
-use Rattle.fifo_access.specs.Laws.{taken}
+use Rattle.fifo_access.specs.Laws.{taken_some, taken_none}
 use Rattle.fifo_access.proofs.take_entry.Goals as goal
 
-pub returns : goal.returns
-returns c = rw c.done.ensures (taken c.args.card c.args.i c.take-taken.result _ c.take-taken.ensures c.with_fifos.ensures)
+pub returns-in-Some : goal.returns-in-Some
+returns-in-Some c = rw c.done.ensures (taken_some c.args.card c.args.i c.take.ensures _ _ _ c.in-Some.is c.held-held.ensures c.with_fifos.ensures)
+
+pub returns-in-None : goal.returns-in-None
+returns-in-None c = rw c.done-in-None.ensures (taken_none c.args.card c.args.i c.take.ensures c.in-None.is)

@@ -11,5 +11,5 @@ pub returns : goal.returns
 returns c =
     rw c.done.ensures (record {
       answer = refl;
-      state = registers_changed c.args.card _ c.raise.result (on_register host (raised_all (mask external))) c.raise.ensures c.with_interrupts.ensures;
+      state = registers_changed c.args.card _ c.raise-interrupts.result (on_register host (raised_all (mask external))) c.raise-interrupts.ensures c.with_interrupts.ensures;
     })

@@ -1,15 +1,16 @@
 -- `interrupt_access::read` meets its contract: refused by its checks, or done with the effect of its row.
-use Rattle.std.proofs.Common.{refl, sym, ◌∙◌}
+use Rattle.std.proofs.Common.{refl}
 use Rattle.model.specs.Accesses as model
+use Rattle.access.specs.Laws.{passed_number}
 use Rattle.card.specs.Laws.{refused_did, done_did}
 use Rattle.interrupt_access.proofs.read.Goals as goal
 
-pub returns-then-n-ne0 : goal.returns-then-n-ne0
-returns-then-n-ne0 c =
+pub returns-in-Err : goal.returns-in-Err
+returns-in-Err c =
     let a = c.args in
-    λ m w. rw c.refused.ensures (refused_did model.interrupt_read a.card a.q m w _ c.no_field-n.ensures c.if-n-ne0.true)
+    λ m w. rw c.refused.ensures (refused_did model.interrupt_read a.card a.q m w _ _ c.in-Err.is c.no_field.ensures)
 
 pub returns : goal.returns
 returns c =
     let a = c.args in
-    λ m w. done_did model.interrupt_read a.card a.q m w _ (sym c.no_field-n.ensures ∙ c.if-n-ne0.false) refl c.read_register.ensures
+    λ m w. done_did model.interrupt_read a.card a.q m w _ (passed_number c.in_default.is c.no_field.ensures) refl c.read_register.ensures

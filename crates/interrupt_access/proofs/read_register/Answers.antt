@@ -6,12 +6,12 @@ use Rattle.card.specs.Laws.{unchanged}
 use Rattle.interrupt_access.specs.Laws.{value_read, value_fits}
 use Rattle.interrupt_access.proofs.read_register.Goals as goal
 
-pub value-value-requires : goal.value-value-requires
-value-value-requires c =
+pub value-requires : goal.value-requires
+value-requires c =
     let a = c.args in
     value_fits a.card (side_of a.side) (register_as c.register-register.result) _ c.requires c.register-register.ensures c.live.ensures
 
 pub returns : goal.returns
 returns c =
     let a = c.args in
-    rw c.done.ensures (unchanged _ 0 _ 0 a.card (value_read a.card (side_of a.side) (register_as c.register-register.result) _ c.register-register.ensures c.live.ensures _ c.value-value.ensures) refl)
+    rw c.done.ensures (unchanged _ 0 _ 0 a.card (value_read a.card (side_of a.side) (register_as c.register-register.result) _ c.register-register.ensures c.live.ensures _ c.value.ensures) refl)

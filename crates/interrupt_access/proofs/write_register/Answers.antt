@@ -13,5 +13,5 @@ returns c =
     let enables = common (a.value / 65536) (enable_mask side) in
     rw c.done.ensures (record {
       answer = refl;
-      state = registers_changed a.card _ c.write.result (λ i. on_register side (cleared_in a.value) (on_register side (enables_in enables) i)) c.write.ensures c.with_interrupts.ensures;
+      state = registers_changed a.card _ c.write-interrupts.result (λ i. on_register side (cleared_in a.value) (on_register side (enables_in enables) i)) c.write-interrupts.ensures c.with_interrupts.ensures;
     })

@@ -1,10 +1,6 @@
-use Rattle.std.proofs.Common.{length, ◌-◌}
 use Rattle.model.specs.Bursts.{writes}
 use Rattle.phases.specs.Laws.{Walk}
 use Rattle.phases.proofs.write_phases.Given as goal
 
 abbrev pub invariant-loop-i : goal.invariant-loop-i
 invariant-loop-i l = Walk writes l.mode l.start l.phases l.fn.shared l.shared l.d l.i
-
-abbrev pub decreases-loop-i : goal.decreases-loop-i
-decreases-loop-i l = length l.phases - l.i

@@ -4,7 +4,7 @@ use borrow.Author.Tests.{lt-ltb, le-ltb}
 use Rattle.model.specs.Accesses.{fit}
 use Rattle.model.specs.Registers.{RegisterAccess, register_access}
 use Rattle.model.proofs.Soundness.{Fit, fit_parts}
-use Rattle.access.specs.declared.Answer.TheVariants.{Refused}
+use Rattle.std.specs.Prelude.{IsOk}
 use Rattle.access.specs.Bridge.{answer_as}
 use Rattle.card.specs.declared.Card.{Card}
 use Rattle.card.specs.declared.Outcome.{Outcome}
@@ -22,12 +22,12 @@ module _ (card : Card) (m w : List ℕ) {b : Bool} (tested : (m' w' : List ℕ) 
   parts e = fit_parts (world_as card m w) (fit_by e)
 
 -- the three promises, as the goals have them
-promised : {card : Card} (q : RegisterAccess) (m w : List ℕ) {r : Outcome} {m' w' : List ℕ} → RegisterAccessed card q m w r m' w' → record {
+promised : {card : Card} (q : RegisterAccess) (m w : List ℕ) (r : Outcome) {m' w' : List ℕ} → RegisterAccessed card q m w r m' w' → record {
   window_after : outcome_as r m' w' ≡ register_access (world_as card m w) q;
   card_value : ((answer_as r.answer).number ≡ 0 → ⊥) → r.card ≡ card;
-  fact : r.answer ≡ Refused 0 → ⊥;
+  fact : (answer_as r.answer).number ≡ 0 → IsOk r.answer;
 }
-promised q m w a = record { window_after = a.0; card_value = a.1.0; fact = a.1.1 }
+promised q m w r a = record { window_after = a.0; card_value = a.1.0; fact = a.1.1 }
 
 pub returns-then-not-fits-clause-window_after : goal.returns-then-not-fits-clause-window_after
 returns-then-not-fits-clause-window_after c = (unfit_arm c.args.card _ _ _ _ _ _ _ (fit_by _ _ _ c.fits.ensures c.if-not-fits.true) c.refused.ensures).0
@@ -52,13 +52,13 @@ write_at-requires c = (parts _ _ _ c.fits.ensures c.if-not-fits.false).shared
 
 pub returns-in-0 : goal.returns-in-0
 returns-in-0 c =
-    promised _ _ _
+    promised _ _ _ _
     (read_arm c.args.card c.args.side c.args.offset c.args.direction c.args.dword _ _ _ (fit_by _ _ _ c.fits.ensures c.if-not-fits.false) (le-ltb 1 _ c.if-side-gt1.false) c.resource_at-x.ensures
     (sym c.is_modelled-modelled.ensures ∙ c.if-not-modelled.false) c.in-0.is (c.read_at.ensures _))
 
 pub returns-in-1 : goal.returns-in-1
 returns-in-1 c =
-    promised _ _ _
+    promised _ _ _ _
     (write_arm c.args.card c.args.side c.args.offset c.args.direction c.args.dword _ _ _ (fit_by _ _ _ c.fits.ensures c.if-not-fits.false) (le-ltb 1 _ c.if-side-gt1.false) c.resource_at-x.ensures
     (sym c.is_modelled-modelled.ensures ∙ c.if-not-modelled.false) c.in-1.is (c.write_at.ensures _))
 

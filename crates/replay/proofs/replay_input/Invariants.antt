@@ -1,19 +1,14 @@
--- A turn of the loop reads one chunk more behind full ones. The chunks that may still be read fall, and their records still fit the count.
-use Rattle.std.proofs.Common.{◌≡◌, true, ◌-◌, ◌*◌, ◌<◌, ◌≤◌, length}
+-- So many chunks behind full ones: where more is to be read they were full, and else the last of them stands behind full ones. Their records fit the count.
+use Rattle.std.proofs.Common.{◌≡◌, ◌*◌, ◌≤◌, length}
 use Rattle.standing.specs.Bridge.{standing_as}
-use Rattle.stream.specs.Bridge.{chunk_bytes}
-use Rattle.replay.specs.Bridge.{most_chunks, Reached}
+use Rattle.stream.specs.Bridge.{chunk_bytes, Behind}
+use Rattle.replay.specs.Bridge.{Reached, Last}
 use Rattle.replay.proofs.replay_input.Given as goal
 
-abbrev pub invariant-loop-chunks : goal.invariant-loop-chunks
-invariant-loop-chunks l = record {
+abbrev pub invariant-loop : goal.invariant-loop
+invariant-loop l = record {
   input : length l.input ≡ chunk_bytes;
   out : length l.out ≡ 104832;
-  below : l.chunks < most_chunks;
-  count : l.last.standing.count ≤ 3276 * l.chunks;
-  reached : Reached l.chunks (standing_as l.last.standing l.shared l.window);
-  more : l.last.more ≡ true;
+  count : l.turn.work.standing.count ≤ 3276 * l.counter;
+  behind : Behind l.counter l.turn (Reached l.counter (standing_as l.turn.work.standing l.shared l.window)) (Last l.counter l.turn l.input l.out l.shared l.window);
 }
-
-abbrev pub decreases-loop-chunks : goal.decreases-loop-chunks
-decreases-loop-chunks l = most_chunks - l.chunks

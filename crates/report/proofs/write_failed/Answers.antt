@@ -1,19 +1,12 @@
--- The line is stored, its words and the field in turn: 50 bytes hold them.
-use Rattle.std.proofs.Common.{arith}
-use Rattle.model.proofs.TextLaws.{digits_64}
+-- The line is stored, its words and the field in turn.
+use Rattle.std.proofs.Common.{◌≡◌, ap, Bor, List, ℕ}
 use Rattle.decimal.specs.Laws.{then}
-use Rattle.report.specs.Bridge.{failed_text}
+use Rattle.report.specs.Bridge.{call_text, failed_text}
 use Rattle.report.proofs.write_failed.Goals as goal
-
-pub write_field-p3-requires : goal.write_field-p3-requires
-write_field-p3-requires c = omega (arith, digits_64 c.args.n (omega arith))
-
-pub write_word-requires : goal.write_word-requires
-write_word-requires c = omega (arith, digits_64 c.args.n (omega arith))
+use Rattle.report.proofs.write_failed.Goals.{then-reading, else-reading}
 
 pub returns-clause-written : goal.returns-clause-written
 unfolding failed_text
-returns-clause-written c = then (then (then c.write_call-p1.ensures.written c.write_word-p2.ensures) c.write_field-p3.ensures.written) c.write_word.ensures
-
-pub returns-clause-upper_bound : goal.returns-clause-upper_bound
-returns-clause-upper_bound c = omega (arith, digits_64 c.args.n (omega arith))
+returns-clause-written c =
+    let call : c.if-reading.call.now ≡ call_text c.args.reading = elim c.if-reading.branch [ then-reading w ↦ rw w.if-reading.true (ap (λ (r : Bor (List ℕ)). r.now) w.call-is) | else-reading w ↦ rw w.if-reading.false (ap (λ (r : Bor (List ℕ)). r.now) w.call-is) ] in
+    then (then (then (rw call at c.write_word-p1.ensures) c.write_word-p2.ensures) c.write_field-p3.ensures.written) c.write_word.ensures

@@ -6,7 +6,7 @@ abbrev pub invariant-loop-s : goal.invariant-loop-s
 invariant-loop-s l =
     (length l.list ≡ length l.fn.list)
     × Stands l.trace l.s
-    × (l.s.filled.count ≤ length l.list / 3)
+    × (l.s.count ≤ length l.list / 3)
     × Half l.trace l.fn.list l.s l.list
 
 abbrev pub decreases-loop-s : goal.decreases-loop-s

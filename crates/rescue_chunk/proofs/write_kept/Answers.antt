@@ -9,4 +9,4 @@ returns-in-Records-clause-written c =
     let a = c.args in
     let wrote = rw (c.number_after.ensures, c.access_of.ensures) at c.write_record.ensures in
     rw c.in-Records.is
-    (record_written (number_after a.count) (access_at a.bytes.now) a.out.now c.write_record.new.out a.end c.write_record.result (omega arith) wrote)
+    (record_written (number_after a.s.tally.kept) (access_at a.bytes.now) a.out.now c.write_record.new.out a.s.end c.write_record.result (omega arith) wrote)

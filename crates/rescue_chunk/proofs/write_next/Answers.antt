@@ -13,7 +13,7 @@ returns-then-next-to-clause-by_index c =
     let ahead = c.next_record-next.ensures in
     λ least first before g h.
     half_more h (ahead.passed least g)
-    (skips_wrote a.output a.out.now (c.next_record-next.result - a.s.at) (ap place_as c.skip-place.ensures) refl refl (omega (arith, ahead.within)))
+    (skips_wrote a.output a.out.now (c.next_record-next.result - a.s.at) (ap place_as c.skip.ensures) refl refl (omega (arith, ahead.within)))
 
 pub returns-clause-by_index : goal.returns-clause-by_index
 returns-clause-by_index c =
@@ -25,7 +25,7 @@ returns-clause-by_index c =
     let at : c.write_found.result.at ≡ next + 20 = wrote.at ∙ ap (λ (n : ℕ). next + n) (record_size (drop next a.input.now)) in
     λ least first before g h.
     half_more h (rw at (record_ahead ahead least g there))
-    (wrote_then (skips_wrote a.output a.out.now (next - a.s.at) (ap place_as c.skip-place.ensures) refl refl (omega (arith, ahead.within))) wrote)
+    (wrote_then (skips_wrote a.output a.out.now (next - a.s.at) (ap place_as c.skip.ensures) refl refl (omega (arith, ahead.within))) wrote)
 
 pub returns-clause-further : goal.returns-clause-further
 returns-clause-further c =
@@ -34,8 +34,8 @@ returns-clause-further c =
     let ahead = c.next_record-next.ensures in
     let there : next < a.to = omega (arith, ahead.within, c.if-next-to.false) in
     let inside : next + 20 ≤ length a.input.now = record_within ahead 0 (omega (arith, c.requires.at_lt_to)) there in
-    let from = ap (λ (p : Place). p.from) c.skip-place.ensures in
-    let run = ap (λ (p : Place). p.run) c.skip-place.ensures in
+    let from = ap (λ (p : Place). p.from) c.skip.ensures in
+    let run = ap (λ (p : Place). p.run) c.skip.ensures in
     let wrote = rw (from_place a.input.now next) at c.write_found.ensures.wrote in
     let at : c.write_found.result.at ≡ next + 20 = wrote.at ∙ ap (λ (n : ℕ). next + n) (record_size (drop next a.input.now)) in
     let goes = c.write_found.ensures.further in (

@@ -1,10 +1,6 @@
 -- `fifos::Fifos::entries` meets its contract: as many are held as are counted.
-use Rattle.std.proofs.Common.{◌∙◌}
 use Rattle.fifos.specs.Laws.{entries_at, length_entries}
 use Rattle.fifos.proofs.Fifos.entries.Goals as goal
 
 pub places-requires : goal.places-requires
 places-requires c = rw (entries_at c.args.self.each c.args.i, length_entries) at c.requires.i_len_bound
-
-pub returns : goal.returns
-returns c = c.places.ensures ∙ rw (entries_at c.args.self.each c.args.i)

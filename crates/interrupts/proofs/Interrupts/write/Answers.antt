@@ -11,4 +11,4 @@ returns c =
     let a = c.args in
     let side = side_of a.side in
     let enables = common (a.value / 65536) (enable_mask side) in
-    written_back side (λ q. cleared_in a.value (enables_in enables q)) _ _ _ _ c.register-register.ensures c.write.ensures c.with.ensures ∙ one_by_one side (cleared_in a.value) (enables_in enables) _
+    written_back side (λ q. cleared_in a.value (enables_in enables q)) _ _ _ _ c.register.ensures c.write.ensures c.with.ensures ∙ one_by_one side (cleared_in a.value) (enables_in enables) _

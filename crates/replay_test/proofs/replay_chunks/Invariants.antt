@@ -1,9 +1,0 @@
--- `replay_chunks` is safe and ends: the lengths stay, no more records are counted than bytes read, and the measure is what is left of the trace.
-use Rattle.std.proofs.Common.{◌+◌, ◌≤◌}
-use Rattle.replay_test.proofs.replay_chunks.Given as goal
-
-abbrev pub invariant-loop-left : goal.invariant-loop-left
-invariant-loop-left l = l.standing.count + l.left ≤ l.bytes
-
-abbrev pub decreases-loop-left : goal.decreases-loop-left
-decreases-loop-left l = l.left

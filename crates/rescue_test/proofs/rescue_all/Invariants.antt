@@ -1,9 +1,0 @@
--- `rescue_all` is safe and ends: both buffers keep their lengths, and the measure is the number of turns that are left.
-use Rattle.std.proofs.Common.{◌≡◌, length}
-use Rattle.rescue_test.proofs.rescue_all.Given as goal
-
-abbrev pub invariant-loop-turns : goal.invariant-loop-turns
-invariant-loop-turns l = (length l.input ≡ length l.initial.input) × (length l.out ≡ length l.initial.out)
-
-abbrev pub decreases-loop-turns : goal.decreases-loop-turns
-decreases-loop-turns l = l.turns

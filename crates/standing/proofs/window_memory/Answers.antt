@@ -1,8 +1,0 @@
--- `standing::window_memory` meets its contract by computation.
-use Rattle.std.proofs.Common.{refl}
-use Rattle.standing.specs.Bridge.{zeros}
-use Rattle.standing.proofs.window_memory.Goals as goal
-
-pub returns : goal.returns
-unfolding zeros
-returns c = refl

@@ -1,0 +1,5 @@
+-- What bytes of zeros are.
+use Rattle.std.specs.Prelude.{List, ℕ, replicate}
+
+unfoldable pub zeros : ℕ → List ℕ
+zeros n = replicate n 0
