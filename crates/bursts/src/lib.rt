@@ -4,7 +4,7 @@
 ghost use Rattle.std.specs.Prelude.{◌≡◌, []};
 ghost use Rattle.model.specs.Bursts.{reads, writes, burst};
 ghost use Rattle.card.specs.Bridge.{world_as};
-ghost use Rattle.phases.specs.Bridge.{phases_as, told_as};
+ghost use Rattle.phases.specs.Bridge.{phases_as, told_as, OverrunByCase};
 
 use card::Card;
 use phases::{Phase, Stop};
@@ -19,7 +19,8 @@ pub fn write(
     start: u32,
     phases: &[Phase],
 ) -> Result<u32, Stop>
-    ensures { record { answer = told_as result []; world = world_as card shared.new window.now } ≡ burst (world_as card shared.old window.now) (record { way = writes; side = side; mode = mode; start = start; phases = phases_as phases.now }) }
+    ensures told { record { answer = told_as result []; world = world_as card shared.new window.now } ≡ burst (world_as card shared.old window.now) (record { way = writes; side = side; mode = mode; start = start; phases = phases_as phases.now }) }
+    ensures by_case { OverrunByCase result }
 {
     let unfit = !device::fits(card, shared.len(), window.len());
     phases::checks(unfit, side, mode, phases, false)?;
@@ -40,7 +41,8 @@ pub fn read(
     phases: &[Phase],
     list: &mut [u32],
 ) -> Result<u32, Stop>
-    ensures { record { answer = told_as result list.new; world = world_as card shared.now window.now } ≡ burst (world_as card shared.now window.now) (record { way = reads list.old; side = side; mode = mode; start = start; phases = phases_as phases.now }) }
+    ensures told { record { answer = told_as result list.new; world = world_as card shared.now window.now } ≡ burst (world_as card shared.now window.now) (record { way = reads list.old; side = side; mode = mode; start = start; phases = phases_as phases.now }) }
+    ensures by_case { OverrunByCase result }
 {
     let unfit = !device::fits(card, shared.len(), window.len());
     phases::checks(unfit, side, mode, phases, list.len() < phases.len())?;

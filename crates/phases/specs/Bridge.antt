@@ -1,5 +1,5 @@
 -- What contracts of phases and bursts cite: a phase and an answer of the code in the model's words, and the checks.
-use Rattle.std.specs.Prelude.{Bool, not, ◌||◌, List, [], ◌∷◌, map, ℕ, Ok, Err, Result, eqb, length}
+use Rattle.std.specs.Prelude.{◌≡◌, ⊤, Bool, not, ◌||◌, List, [], ◌∷◌, map, ℕ, Ok, Err, Result, eqb, length}
 use Rattle.model.specs.Choice.{every}
 use Rattle.model.specs.Checks.{Check, ◌for◌, above}
 use Rattle.model.specs.Sides.{local, side_of, not_by}
@@ -22,6 +22,12 @@ abbrev pub total_as : Result ℕ Stop → Answer
 total_as (Ok v) = record { number = 0; v = v; x = 0 }
 total_as (Err (Refused r)) = record { number = number_of r; v = 0; x = 0 }
 total_as (Err (Overrun v)) = record { number = 13; v = v; x = 0 }
+
+-- The overrun is told by its own case alone: no refusal that is answered has its number. With this the answer of the definition has one value in code.
+abbrev pub OverrunByCase : Result ℕ Stop → Type 0
+OverrunByCase (Ok v) = ⊤
+OverrunByCase (Err (Refused r)) = number_of r ≡ 13 → ⊥
+OverrunByCase (Err (Overrun v)) = ⊤
 
 -- with the list that was lent, as it is left
 abbrev pub told_as : Result ℕ Stop → (list : List ℕ) → Told

@@ -1,6 +1,6 @@
 -- A walk along the phases, as the loops go it: what is still to be done from place `i` on, at dword `d` and with the memory as it is then. It begins at
 -- place 0, goes on by one phase, and ends where no phase is left or the next stands past the last dword.
-use Rattle.std.specs.Prelude.{◌≡◌, refl, min, Bool, true, false, not, ◌&&◌, List, [], ◌∷◌, ◌++◌, map, ℕ, zero, suc, ◌+◌, ◌≤◌, ◌<◌, eqb, leb, ltb, length, get_or, drop, set}
+use Rattle.std.specs.Prelude.{◌≡◌, refl, min, Bool, true, false, not, ◌&&◌, ◌||◌, List, [], ◌∷◌, ◌++◌, map, ℕ, zero, suc, ◌+◌, ◌≤◌, ◌<◌, eqb, leb, ltb, length, get_or, drop, set}
 use Rattle.std.proofs.Common.{ap, sym, ◌∙◌, arith, add-one, length-set, drop_of_length-le, drop-cons, eqb-true, le-ltb, lt-ltb, ltb-true, ltb-false}
 use Rattle.std.proofs.Math.Bool.{and_assoc, and-true, or-true}
 use Rattle.std.proofs.lemmas.List.{length-map}
@@ -8,7 +8,8 @@ use Rattle.std.proofs.lemmas.List.Edits.{sets, sets-eq}
 use Rattle.std.proofs.lemmas.Bool.{not-true}
 use Rattle.std.proofs.lemmas.Bool.Decides.{nat_tests}
 use Rattle.std.specs.List.{fold}
-use Rattle.model.specs.Checks.{above}
+use Rattle.model.specs.Checks.{refusal, ◌for◌, above}
+use Rattle.model.specs.Sides.{local, side_of, not_by}
 use Rattle.model.specs.Lanes.{dword_of, bytes_of, stores, read_dword, write_dword}
 use Rattle.model.specs.Runs.{Entry}
 use Rattle.model.specs.Accesses.{Access, Answer}
@@ -20,7 +21,7 @@ use Rattle.model.proofs.TestLaws.{and_left, and_right, if_case}
 use Rattle.model.proofs.BurstLaws.{left_length}
 use Rattle.pins.specs.Laws.{carried_whole}
 use Rattle.phases.specs.declared.Phase.{Phase}
-use Rattle.phases.specs.Bridge.{phase_as, phases_as, pins_fit}
+use Rattle.phases.specs.Bridge.{phase_as, phases_as, pins_fit, checks_of}
 
 -- PHASES
 
@@ -105,6 +106,20 @@ decode_cut mode pins dq = by (ltb 255 pins) refl
         let l = ltb-false 255 pins e in
         let m : min pins 255 ≡ pins = omega arith in
         rw m
+
+-- no check of a burst has the number of the overrun
+pub not_overrun : (unfit : Bool) (side mode : ℕ) (ps : List model.Phase) (short : Bool) → refusal (checks_of unfit side mode ps short) ≡ 13 → ⊥
+not_overrun unfit side mode ps short =
+    by unfit (above 1 side) (not_by local (side_of side)) (eqb mode 2 || above 3 mode || above 65536 (length ps)) (not (pins_fit ps)) short
+  where
+    by : (b c d e f g : Bool) → refusal (1 for b ∷ 2 for c ∷ 5 for d ∷ 12 for e ∷ 4 for f ∷ 14 for g ∷ []) ≡ 13 → ⊥
+    by true c d e f g h = omega arith
+    by false true d e f g h = omega arith
+    by false false true e f g h = omega arith
+    by false false false true f g h = omega arith
+    by false false false false true g h = omega arith
+    by false false false false false true h = omega arith
+    by false false false false false false h = omega arith
 
 -- THE WALK
 

@@ -6,7 +6,7 @@ ghost use Rattle.model.specs.Checks.{refusal, above, shared_length};
 ghost use Rattle.model.specs.Pins.{decode};
 ghost use Rattle.model.specs.Bursts.{reads, writes, advances, next, last_dword, list_after, shared_from, entries_from, left_by, value_in};
 ghost use Rattle.access.specs.Bridge.{refusal_as};
-ghost use Rattle.phases.specs.Bridge.{phase_as, phases_as, total_as, pins_fit, checks_of};
+ghost use Rattle.phases.specs.Bridge.{phase_as, phases_as, total_as, OverrunByCase, pins_fit, checks_of};
 ghost use Rattle.phases.specs.declared.Stop.TheVariants.{Refused};
 
 use access::Refusal;
@@ -178,7 +178,8 @@ pub fn read_phases(shared: &[u8], mode: u8, start: u32, phases: &[Phase], list: 
 
 // WHAT A BURST ANSWERS: "V is the phases done"; "13 the overrun, which amends rule 1 and keeps that V".
 pub fn ended(done: u32, phases: usize) -> Result<u32, Stop>
-    ensures { total_as result ≡ record { number = if ltb done phases then 13 else 0; v = done; x = 0 } }
+    ensures value { total_as result ≡ record { number = if ltb done phases then 13 else 0; v = done; x = 0 } }
+    ensures by_case { OverrunByCase result }
 {
     if (done as usize) < phases {
         return Err(Stop::Overrun(done));
