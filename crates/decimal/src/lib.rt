@@ -40,6 +40,13 @@ fn write_two_digits(out: &mut [u8], at: usize, n: u64) -> usize
 fn digits(n: u64) -> usize
     ensures { result ≡ length (decimal_text n) }
 {
+    // For small numbers the power of ten takes longer than two tests.
+    if n < TWO_DIGITS_FROM {
+        return 1;
+    }
+    if n < 100 {
+        return 2;
+    }
     n.checked_ilog10().unwrap_or(0) as usize + 1
 }
 
@@ -48,6 +55,10 @@ fn write_decimal(out: &mut [u8], at: usize, n: u64) -> usize
     requires { at + length (decimal_text n) ≤ length out.old }
     ensures { Written out.old at (decimal_text n) result out.new }
 {
+    // Most numbers of a list have one digit.
+    if n < TWO_DIGITS_FROM {
+        return write_byte(out, at, b'0' + n as u8);
+    }
     let end = at + digits(n);
     let mut left = n;
     let mut p = end;

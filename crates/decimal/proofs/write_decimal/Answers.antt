@@ -11,6 +11,12 @@ two_less : {l m n : List ℕ} {at p q r : ℕ} (left : ℕ) → 100 ≤ left →
     → Written l at (decimal_text left) r n → Written l p (two_digits (left % 100)) q m → Written m at (decimal_text (left / 100)) p n
 two_less left h e f g = first_left (rw (last_two_digits left h) at f) (rw e at g)
 
+pub write_byte-requires : goal.write_byte-requires
+write_byte-requires c = omega (arith, ap length (one_digit c.args.n (omega arith)))
+
+pub returns-then-n-lt-TWO_DIGITS_FROM : goal.returns-then-n-lt-TWO_DIGITS_FROM
+returns-then-n-lt-TWO_DIGITS_FROM c = rw (one_digit c.args.n (omega arith)) c.write_byte.ensures
+
 pub overflow_sub-p : goal.overflow_sub-p
 overflow_sub-p c = omega (arith, two_digits_longer c.loop-left.left (omega arith))
 
@@ -32,11 +38,11 @@ returns-then-left-ge-TWO_DIGITS_FROM c =
     let left : Written _ _ (two_digits l.left) _ _ = rw (two_digits_lem l.left (omega arith) (omega arith)) at l.invariant.2 in
     record { place = omega arith; bytes = c.write_two_digits-then-left-ge-TWO_DIGITS_FROM.ensures.bytes ∙ sym left.bytes }
 
-pub write_byte-requires : goal.write_byte-requires
-write_byte-requires c = omega (arith, ap length (one_digit c.loop-left.left (omega arith)))
+pub write_byte-requires-2 : goal.write_byte-requires-2
+write_byte-requires-2 c = omega (arith, ap length (one_digit c.loop-left.left (omega arith)))
 
 pub returns : goal.returns
 returns c =
     let l = c.loop-left in
     let left : Written _ _ (digit l.left ∷ []) _ _ = rw (one_digit l.left (omega arith)) at l.invariant.2 in
-    record { place = omega arith; bytes = c.write_byte.ensures.bytes ∙ sym left.bytes }
+    record { place = omega arith; bytes = c.write_byte-2.ensures.bytes ∙ sym left.bytes }
