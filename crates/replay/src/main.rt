@@ -25,7 +25,7 @@ fn replay_input(
     out: &mut [u8; 104832],
 ) -> Turn
     requires { standing_as start shared.old window.old ≡ replay_start }
-    ensures { Ended result input.new out.new shared.new window.new }
+    ensures { Ended result.went input.new out.new shared.new window.new }
 {
     let mut turn = turn::first(start);
     for _ in 0..CHUNKS {
@@ -40,7 +40,7 @@ fn replay_input(
 
 // The last line, and the line for standard error where something failed.
 fn finish(turn: Turn, out: &mut [u8; 104832])
-    ensures { Closed turn out.old out.new }
+    ensures { Closed turn.went out.old out.new }
 {
     let end = turn::last_line(turn, out);
     let unclosed = !io::write_all(1, stream::text(out, end));

@@ -18,7 +18,7 @@ loop-init c =
       input = search rules;
       out = search rules;
       count = omega (arith, ap (λ (s : Standing). s.count) now);
-      behind = none_behind c.first-turn.result (ap (λ (t : Turn). t.more) first) (none_yet now);
+      behind = none_behind c.first-turn.result.went (ap (λ (t : Turn). t.more) first) (none_yet now);
     }
 
 pub loop-preserved : goal.loop-preserved
@@ -31,7 +31,7 @@ loop-preserved c =
       input = input;
       out = search rules;
       count = omega (arith, turned.ensures.count_bound_2, l.invariant.count);
-      behind = one_behind l.counter turned.result (λ m. chunk_more input m reached turned.ensures.turned)
+      behind = one_behind l.counter turned.result.went (λ m. chunk_more input m reached turned.ensures.turned)
           (record { before = l.counter; counted = refl; start = _; reached = reached; last = turned.ensures.turned });
     }
 

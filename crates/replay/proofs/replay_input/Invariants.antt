@@ -9,6 +9,6 @@ abbrev pub invariant-loop : goal.invariant-loop
 invariant-loop l = record {
   input : length l.input ≡ chunk_bytes;
   out : length l.out ≡ 104832;
-  count : l.turn.work.standing.count ≤ 3276 * l.counter;
-  behind : Behind l.counter l.turn (Reached l.counter (standing_as l.turn.work.standing l.shared l.window)) (Last l.counter l.turn l.input l.out l.shared l.window);
+  count : l.turn.went.work.standing.count ≤ 3276 * l.counter;
+  behind : Behind l.counter l.turn.went (Reached l.counter (standing_as l.turn.went.work.standing l.shared l.window)) (Last l.counter l.turn.went l.input l.out l.shared l.window);
 }
