@@ -36,6 +36,9 @@ told_as t list = record { answer = total_as t; list = list }
 abbrev pub pins_fit : List model.Phase → Bool
 pins_fit ps = every (λ p. not (above 15 p.pins)) ps
 
+abbrev pub all_low : List model.Phase → Bool
+all_low ps = every (λ p. eqb p.pins 0) ps
+
 -- `burst_checks` behind cause 1, over plain values
 abbrev pub checks_of : (unfit : Bool) → (side mode : ℕ) → List model.Phase → (short : Bool) → List Check
 checks_of unfit side mode ps short =

@@ -1,6 +1,6 @@
 -- A walk along the phases, as the loops go it: what is still to be done from place `i` on, at dword `d` and with the memory as it is then. It begins at
 -- place 0, goes on by one phase, and ends where no phase is left or the next stands past the last dword.
-use Rattle.std.specs.Prelude.{◌≡◌, refl, min, Bool, true, false, not, ◌&&◌, ◌||◌, List, [], ◌∷◌, ◌++◌, map, ℕ, zero, suc, ◌+◌, ◌≤◌, ◌<◌, eqb, leb, ltb, length, get_or, drop, set}
+use Rattle.std.specs.Prelude.{◌≡◌, refl, min, Bool, true, false, not, ◌&&◌, ◌||◌, List, [], ◌∷◌, ◌++◌, map, ℕ, zero, suc, ◌+◌, ◌*◌, ◌≤◌, ◌<◌, eqb, leb, ltb, length, get_or, drop, set}
 use Rattle.std.proofs.Common.{ap, sym, ◌∙◌, arith, add-one, length-set, drop_of_length-le, drop-cons, eqb-true, le-ltb, lt-ltb, ltb-true, ltb-false}
 use Rattle.std.proofs.Math.Bool.{and_assoc, and-true, or-true}
 use Rattle.std.proofs.lemmas.List.{length-map}
@@ -8,20 +8,21 @@ use Rattle.std.proofs.lemmas.List.Edits.{sets, sets-eq}
 use Rattle.std.proofs.lemmas.Bool.{not-true}
 use Rattle.std.proofs.lemmas.Bool.Decides.{nat_tests}
 use Rattle.std.specs.List.{fold}
+use Rattle.model.specs.Choice.{every}
 use Rattle.model.specs.Checks.{refusal, ◌for◌, above}
 use Rattle.model.specs.Sides.{local, side_of, not_by}
 use Rattle.model.specs.Lanes.{dword_of, bytes_of, stores, read_dword, write_dword}
 use Rattle.model.specs.Runs.{Entry}
 use Rattle.model.specs.Accesses.{Access, Answer}
 use Rattle.model.specs.Bursts as model
-use Rattle.model.specs.Bursts.{Way, reads, advances, next, last_dword, list_after, shared_from, entries_from, left_by, value_in}
+use Rattle.model.specs.Bursts.{Way, reads, writes, advances, next, last_dword, list_after, shared_from, entries_from, left_by, value_in}
 use Rattle.model.specs.Pins.{decode}
 use Rattle.model.proofs.LaneLaws.{Bytes, bytes_dword, dword_bytes}
 use Rattle.model.proofs.TestLaws.{and_left, and_right, if_case}
 use Rattle.model.proofs.BurstLaws.{left_length}
 use Rattle.pins.specs.Laws.{carried_whole}
 use Rattle.phases.specs.declared.Phase.{Phase}
-use Rattle.phases.specs.Bridge.{phase_as, phases_as, pins_fit, checks_of}
+use Rattle.phases.specs.Bridge.{phase_as, phases_as, pins_fit, all_low, checks_of}
 
 -- PHASES
 
@@ -69,6 +70,13 @@ whole_written mode pins dq m at e =
     bytes_small dq (suc (suc (suc zero))) = omega arith
     bytes_small dq (suc (suc (suc (suc i)))) = omega arith
 
+-- a phase of a whole dword: the dword written, and the dword read
+pub low_written : (p : Phase) (m : List ℕ) (d : ℕ) → p.pins ≡ 0 → write_dword m (4 * d) 0 p.dq ≡ left_by writes 3 d (phase_as p) m
+low_written p m d e = whole_written 3 p.pins p.dq m (4 * d) (rw e refl)
+
+pub low_read : (p : Phase) (before m : List ℕ) (d : ℕ) → p.pins ≡ 0 → read_dword m (4 * d) 0 ≡ value_in (reads before) 3 d (phase_as p) m
+low_read p before m d e = whole_read 3 p.pins p.dq m (4 * d) (rw e refl)
+
 -- the dword address, by what the table says
 module _ (mode d : ℕ) {a : Bool} {pins given : ℕ} (p : given ≡ pins) (h : a ≡ advances mode given) where
   pub advanced : a ≡ true → d + 1 ≡ next mode pins d
@@ -77,20 +85,33 @@ module _ (mode d : ℕ) {a : Bool} {pins given : ℕ} (p : given ≡ pins) (h : 
   pub stayed : a ≡ false → d ≡ next mode pins d
   stayed e = rw (← p, ← h, e)
 
--- the test of all phases, as the code gathers it
 -- where the pins of all phases fit, those of each do
 pub pins_at : (ps : List Phase) (i : ℕ) → pins_fit (phases_as ps) ≡ true → (get_or ps i no_phase).pins ≤ 15
 pins_at [] i h = omega arith
 pins_at (p ∷ ps) zero h = ltb-false 15 p.pins (not-true _ (and_left (not (above 15 p.pins)) (pins_fit (phases_as ps)) h))
 pins_at (p ∷ ps) (suc i) h = pins_at ps i (and_right (not (above 15 p.pins)) (pins_fit (phases_as ps)) h)
 
+-- where all are low, those of each are
+pub low_at : (ps : List Phase) (i : ℕ) → all_low (phases_as ps) ≡ true → (get_or ps i no_phase).pins ≡ 0
+low_at [] i h = refl
+low_at (p ∷ ps) zero h = eqb-true p.pins 0 (and_left (eqb p.pins 0) (all_low (phases_as ps)) h)
+low_at (p ∷ ps) (suc i) h = low_at ps i (and_right (eqb p.pins 0) (all_low (phases_as ps)) h)
+
+-- the test of all phases, as the code gathers it
+gathered : (test : Phase → Bool) (of : model.Phase → Bool) → ((p : Phase) → test p ≡ of (phase_as p)) → (b : Bool) (ps : List Phase) →
+    fold (λ (a : Bool) (p : Phase). a && test p) b ps ≡ (b && every of (phases_as ps))
+gathered test of same b [] = sym (and-true b)
+gathered test of same b (p ∷ ps) =
+    gathered test of same (b && test p) ps ∙ and_assoc b (test p) (every of (phases_as ps)) ∙ ap (λ c. b && (c && every of (phases_as ps))) (same p)
+
 pub all_fit : (fit : Bool) (ps : List Phase) → fold (λ (a : Bool) (p : Phase). a && leb p.pins 15) fit ps ≡ (fit && pins_fit (phases_as ps))
-all_fit fit [] = sym (and-true fit)
-all_fit fit (p ∷ ps) =
-    all_fit (fit && leb p.pins 15) ps ∙ and_assoc fit (leb p.pins 15) (pins_fit (phases_as ps)) ∙ ap (λ b. fit && (b && pins_fit (phases_as ps))) (fits p.pins)
+all_fit = gathered (λ p. leb p.pins 15) (λ p. not (above 15 p.pins)) (λ p. fits p.pins)
   where
     fits : (pins : ℕ) → leb pins 15 ≡ not (above 15 pins)
     fits pins = grind (arith, nat_tests)
+
+pub all_are_low : (low : Bool) (ps : List Phase) → fold (λ (a : Bool) (p : Phase). a && eqb p.pins 0) low ps ≡ (low && all_low (phases_as ps))
+all_are_low = gathered (λ p. eqb p.pins 0) (λ p. eqb p.pins 0) (λ p. refl)
 
 -- pins above 15 are refused alike
 pub decode_cut : (mode pins dq : ℕ) → decode mode pins dq ≡ decode mode (min pins 255) dq

@@ -6,7 +6,7 @@ ghost use Rattle.model.specs.Checks.{refusal, above, shared_length};
 ghost use Rattle.model.specs.Pins.{decode};
 ghost use Rattle.model.specs.Bursts.{reads, writes, advances, next, last_dword, list_after, shared_from, entries_from, left_by, value_in};
 ghost use Rattle.access.specs.Bridge.{refusal_as};
-ghost use Rattle.phases.specs.Bridge.{phase_as, phases_as, total_as, OverrunByCase, pins_fit, checks_of};
+ghost use Rattle.phases.specs.Bridge.{phase_as, phases_as, total_as, OverrunByCase, pins_fit, all_low, checks_of};
 ghost use Rattle.phases.specs.declared.Stop.TheVariants.{Refused};
 
 use access::Refusal;
@@ -85,6 +85,15 @@ fn pins_fit(phases: &[Phase]) -> bool
         .fold(true, |fit, phase| fit & (phase.pins <= 15))
 }
 
+// Whether all pins of all phases are low. All are looked at, without a branch, as in `pins_fit`.
+fn all_low(phases: &[Phase]) -> bool
+    ensures { result ≡ all_low (phases_as phases.now) }
+{
+    phases
+        .iter()
+        .fold(true, |low, phase| low & (phase.pins == 0))
+}
+
 // 1, 2, and "in this order after 1 and 2: 5 the host side, 12 .., 4 any phase's pins above 15, 14 a read list shorter than the phases".
 pub fn checks(unfit: bool, side: u8, mode: u8, phases: &[Phase], short: bool) -> Result<(), Refusal>
     ensures { refusal_as result ≡ refusal (checks_of unfit side mode (phases_as phases.now) short) }
@@ -141,12 +150,49 @@ fn read_phase(shared: &[u8], mode: u8, d: u32, phase: Phase) -> u32
     lanes::read_dword(shared, at, lanes.lanes)
 }
 
+// Phases that are whole dwords, one dword after another.
+fn write_dwords(shared: &mut [u8], start: u32, phases: &[Phase]) -> u32
+    requires { (length shared.old ≡ shared_length) × (length phases.now ≤ 65536) × (all_low (phases_as phases.now) ≡ true) }
+    ensures value { result ≡ length (entries_from writes 3 start (phases_as phases.now) shared.old) }
+    ensures shared_after { shared.new ≡ shared_from writes 3 start (phases_as phases.now) shared.old }
+{
+    let mut d = start;
+    for (i, phase) in phases.iter().enumerate() {
+        if d > LAST_DWORD {
+            return i as u32;
+        }
+        lanes::write_dword(shared, 4 * d as usize, lanes::ALL_LANES, phase.dq);
+        d += 1;
+    }
+    phases.len() as u32
+}
+
+fn read_dwords(shared: &[u8], start: u32, phases: &[Phase], list: &mut [u32]) -> u32
+    requires { (length shared.now ≡ shared_length) × (length phases.now ≤ 65536) × (length phases.now ≤ length list.old) × (all_low (phases_as phases.now) ≡ true) }
+    ensures value { result ≡ length (entries_from (reads list.old) 3 start (phases_as phases.now) shared.now) }
+    ensures list_after { list.new ≡ list_after (reads list.old) (entries_from (reads list.old) 3 start (phases_as phases.now) shared.now) }
+{
+    let mut d = start;
+    for i in 0..phases.len() {
+        if d > LAST_DWORD {
+            return i as u32;
+        }
+        list[i] = lanes::read_dword(shared, 4 * d as usize, lanes::ALL_LANES);
+        d += 1;
+    }
+    phases.len() as u32
+}
+
 // Writes the phases up to the first that stands past the last dword, and answers how many were done.
 pub fn write_phases(shared: &mut [u8], mode: u8, start: u32, phases: &[Phase]) -> u32
     requires { (length shared.old ≡ shared_length) × (length phases.now ≤ 65536) }
     ensures value { result ≡ length (entries_from writes mode start (phases_as phases.now) shared.old) }
     ensures shared_after { shared.new ≡ shared_from writes mode start (phases_as phases.now) shared.old }
 {
+    // Where no pins are to be looked at, phase by phase, a burst takes half the time.
+    if mode == 3 && all_low(phases) {
+        return write_dwords(shared, start, phases);
+    }
     let mut d = start;
     for (i, phase) in phases.iter().enumerate() {
         if d > LAST_DWORD {
@@ -165,6 +211,9 @@ pub fn read_phases(shared: &[u8], mode: u8, start: u32, phases: &[Phase], list: 
     ensures value { result ≡ length (entries_from (reads list.old) mode start (phases_as phases.now) shared.now) }
     ensures list_after { list.new ≡ list_after (reads list.old) (entries_from (reads list.old) mode start (phases_as phases.now) shared.now) }
 {
+    if mode == 3 && all_low(phases) {
+        return read_dwords(shared, start, phases, list);
+    }
     let mut d = start;
     for (i, phase) in phases.iter().enumerate() {
         if d > LAST_DWORD {
