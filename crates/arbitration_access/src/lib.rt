@@ -50,6 +50,7 @@ fn release_flag(card: Card, side: u8, i: usize) -> Outcome
 // KINDS
 
 // 7 claim
+#[inline(always)]
 pub fn claim(card: Card, q: Access) -> Outcome
     ensures { (m w : List ℕ) → Did model.claim card q m w result m w }
 {
@@ -60,6 +61,7 @@ pub fn claim(card: Card, q: Access) -> Outcome
 }
 
 // 8 release
+#[inline(always)]
 pub fn release(card: Card, q: Access) -> Outcome
     ensures { (m w : List ℕ) → Did model.release card q m w result m w }
 {

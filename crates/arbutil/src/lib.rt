@@ -8,6 +8,7 @@ ghost use Rattle.model.specs.RegisterMap.{arbutil};
 ghost use Rattle.model.specs.Registers.{flag_written, read_row, write_row};
 ghost use Rattle.access.specs.Bridge.{answer_as};
 ghost use Rattle.card.specs.Bridge.{world_as, Effected, Settles};
+ghost use Rattle.arbutil.specs.Bridge.{Wrote};
 
 use access::{Answer, Done, Kind};
 use card::{Card, Outcome};
@@ -28,6 +29,7 @@ fn bit_of(side: u8, pair: u8) -> u32
 }
 
 // A 1 at the bit of the caller's flag claims it, a 0 releases it.
+#[inline(always)]
 fn write_flag(card: Card, side: u8, dword: u32, pair: u8, bit: u32) -> Outcome
     requires pair_bound { pair < 4 }
     requires bit_value { bit ≡ 2 ^ flag_bit (side_of side) pair }
@@ -50,16 +52,35 @@ fn at_bit(answer: Answer, bit: u32) -> u32
     }
 }
 
+// The card with a flag claimed or released, and V at its bit.
+#[derive(Clone, Copy)]
+struct Written {
+    card: Card,
+    flag: u32,
+}
+
+#[inline(always)]
+fn write_pair(card: Card, side: u8, dword: u32, pair: u8) -> Written
+    requires { pair < 4 }
+    ensures by_index { (m w : List ℕ) → Wrote (world_as card m w) (side_of side) dword pair result.card result.flag m w }
+    ensures flag_bound { result.flag ≤ 33554432 }
+{
+    let bit = bit_of(side, pair);
+    let written = write_flag(card, side, dword, pair, bit);
+    Written {
+        card: written.card,
+        flag: at_bit(written.answer, bit),
+    }
+}
+
+// Pair after pair, each its own line: by a loop over the pairs the card goes through memory from one to the next.
 pub fn write(card: Card, side: u8, dword: u32) -> Outcome
     ensures { (m w : List ℕ) → Settles (write_row arbutil (world_as card m w) (side_of side) dword) card m w result m w }
 {
-    let mut after = card;
-    let mut flags = 0;
-    for pair in 0..4u8 {
-        let bit = bit_of(side, pair);
-        let written = write_flag(after, side, dword, pair, bit);
-        flags += at_bit(written.answer, bit);
-        after = written.card;
-    }
-    after.done(flags, 0)
+    let first = write_pair(card, side, dword, 0);
+    let second = write_pair(first.card, side, dword, 1);
+    let third = write_pair(second.card, side, dword, 2);
+    let fourth = write_pair(third.card, side, dword, 3);
+    let flags = first.flag + (second.flag + (third.flag + fourth.flag));
+    fourth.card.done(flags, 0)
 }
