@@ -76,7 +76,7 @@ fn no_burst(mode: u8, phases: usize) -> bool
 }
 
 // The contrary of cause 4: "any phase's pins above 15". All are looked at, without a branch: by `all`, which stops at the first above 15, bursts of
-// mode 3 move 720 million dwords a second where this moves 1,000.
+// mode 3 moved 720 million dwords a second where by this they moved 1,000, phase by phase.
 fn pins_fit(phases: &[Phase]) -> bool
     ensures { result ≡ pins_fit (phases_as phases.now) }
 {

@@ -12,7 +12,7 @@ use standing::Standing;
 use std::io::Stdin;
 
 // How a chunk of a replay went, with where its text ends in the output buffer, and where the replay stands then. Its field is private: a turn comes from a
-// chunk that was replayed, or from before the first, and no other crate can make one.
+// chunk that was replayed, or from before the first, and no other crate can make one in another way.
 #[derive(Clone, Copy)]
 pub struct Turn {
     went: stream::Turn<Replayed>,
