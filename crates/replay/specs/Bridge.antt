@@ -5,7 +5,7 @@ use Rattle.std.proofs.lemmas.List.Edits.{sets}
 use Rattle.model.specs.Choice.{All}
 use Rattle.model.specs.Replay.{Standing, replay_start, replay_chunks}
 use Rattle.stream.specs.Bridge.{chunk_bytes, fault_text}
-use Rattle.turn.specs.Bridge.{Turn, Turned, closing_text}
+use Rattle.sealed_turn.specs.Bridge.{Turn, Turned, closing_text}
 
 -- every loop must have an end: no more chunks are read
 abbrev pub most_chunks : ℕ

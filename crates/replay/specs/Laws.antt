@@ -8,8 +8,8 @@ use Rattle.model.proofs.ReplayLaws.{chunks_more, WholeRecords, chunked_text}
 use Rattle.standing.specs.Bridge.{standing_as}
 use Rattle.stream.specs.Bridge.{chunk_bytes, broke_off}
 use Rattle.stream.specs.Laws.{end_is}
-use Rattle.turn.specs.Bridge.{Turn, bytes_of, Turned, closing_text}
-use Rattle.turn.specs.Laws.{more_full, more_going}
+use Rattle.sealed_turn.specs.Bridge.{Turn, bytes_of, Turned, closing_text}
+use Rattle.sealed_turn.specs.Laws.{more_full, more_going}
 use Rattle.replay.specs.Bridge.{most_chunks, Reached, Last, Ended}
 
 -- ONE CHUNK MORE

@@ -7,9 +7,9 @@ ghost use Rattle.model.specs.Replay.{replay_start};
 ghost use Rattle.standing.specs.Bridge.{standing_as};
 ghost use Rattle.replay.specs.Bridge.{Ended, Closed};
 
+use sealed_turn::Turn;
 use standing::Standing;
 use std::io::Stdin;
-use turn::Turn;
 
 // Every loop must have an end: 5 times 2 to the 50 chunks, whose records a u64 still counts. At 10 GB a second they last a thousand years.
 const CHUNKS: u64 = 5629499534213120;
@@ -27,13 +27,13 @@ fn replay_input(
     requires { standing_as start shared.old window.old ≡ replay_start }
     ensures { Ended result.went input.new out.new shared.new window.new }
 {
-    let mut turn = turn::first(start);
+    let mut turn = sealed_turn::first(start);
     for _ in 0..CHUNKS {
         let on = turn.goes_on();
         if !on {
             return turn;
         }
-        turn = turn::replay_chunk(stdin, turn, shared, window, input, out);
+        turn = sealed_turn::replay_chunk(stdin, turn, shared, window, input, out);
     }
     turn
 }
@@ -42,7 +42,7 @@ fn replay_input(
 fn finish(turn: Turn, out: &mut [u8; 104832])
     ensures { Closed turn.went out.old out.new }
 {
-    let end = turn::last_line(turn, out);
+    let end = sealed_turn::last_line(turn, out);
     let unclosed = !io::write_all(1, stream::text(out, end));
     let fault = turn.fault_line(unclosed, out);
     io::write_all(2, stream::text(out, fault));

@@ -5,7 +5,7 @@ use Rattle.stream.specs.Bridge.{chunk_bytes}
 use Rattle.stream.specs.Laws.{none_behind, one_behind, ended_early}
 use Rattle.model.specs.Replay.{Standing}
 use Rattle.model.proofs.TestLaws.{no_both}
-use Rattle.turn.specs.Bridge.{Turn}
+use Rattle.sealed_turn.specs.Bridge.{Turn}
 use Rattle.replay.specs.Laws.{none_yet, chunk_more, ended}
 use Rattle.replay.proofs.replay_input.Goals as goal
 

@@ -9,5 +9,5 @@ returns-clause-turned c =
     let read = c.read_chunk-chunk in
     let size : read.result.size ≤ chunk_bytes = omega (arith, read.ensures.fits) in
     let answer = c.answer_chunk-replayed.ensures in
-    rw (c.next-went.ensures, ← c.work.ensures)
+    rw (c.next.ensures, ← c.work.ensures)
     (turned _ size c.at_hand-size.ensures.value answer.played answer.end_in_bounds c.records_told-told.ensures refl)

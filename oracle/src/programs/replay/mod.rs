@@ -20,13 +20,20 @@ pub use long::FEWEST_RECORDS;
 const LEAST_RECORDS: usize = 100_000;
 /// What all traces and texts may take together.
 const BYTES_LIMIT: usize = 10_000_000;
+/// The records of a trace of two pieces: the first is full.
+const TWO_PIECES: usize = 4000;
 
-pub fn programs() -> [Program; 2] {
+pub fn programs() -> [Program; 3] {
     let long = long_trace(long::STORED_RECORDS);
     let traces = [short::traces(), damaged::traces(), lessons::traces()].concat();
     let bytes = long.len() + traces.iter().map(Vec::len).sum::<usize>();
     assert!(bytes >= LEAST_RECORDS * RECORD_LENGTH);
-    let programs = [on_trace("replay", long), on_traces("replay_test", traces)];
+    let two_pieces = long[..TWO_PIECES * RECORD_LENGTH].to_vec();
+    let programs = [
+        on_trace("replay", long),
+        on_traces("replay_test", traces),
+        on_trace("turn_test", two_pieces),
+    ];
     let sizes = programs.iter().map(|p| p.stdin.len() + p.stdout.len());
     assert!(sizes.sum::<usize>() < BYTES_LIMIT);
     programs

@@ -1,0 +1,2 @@
+pub use Rattle.turn.specs.Bridge
+pub use Rattle.turn.specs.Laws
